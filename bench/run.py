@@ -1,0 +1,153 @@
+#!/usr/bin/env python3
+"""Times and peak memory of the built program, on sources that grow, and beside a stock Lisp.
+
+Each source is measured at its size and at half of it. It is no part of the gate.
+
+    bench/run.py            prints a table
+"""
+import os
+import shutil
+import subprocess
+import sys
+import tempfile
+import time
+
+TOP = os.path.dirname(os.path.dirname(os.path.abspath(__file__)))
+PROGRAM = os.path.join(TOP, "bin", "ql")
+MIB = 1 << 20
+MOST_GROWTH = 2.3
+MOST_BYTES = 200
+RUNS = 5
+
+
+def spread_prints(size, lines):
+    """So many lines `(print (+ 1 2))`, spread by blanks over so many bytes."""
+    line = b"(print (+ 1 2))"
+    blanks, more = divmod(size - lines * (len(line) + 1), lines)
+    return b"".join(line + b" " * (blanks + (i < more)) + b"\n" for i in range(lines))
+
+
+def nested_sums(operands):
+    """Sums nested 199 deep, of so many operands in all."""
+    forms = []
+    while operands > 0:
+        depth = min(199, max(1, operands - 1))
+        forms.append(b"(+ " * depth + b"1" + b" 1)" * depth)
+        operands -= depth + 1
+    return b"\n".join(forms) + b"\n"
+
+
+def quoted(items, size):
+    """One quoted list of these items, as many as fit the size."""
+    out, length = [], 4
+    for item in items:
+        if length + len(item) + 1 > size:
+            break
+        out.append(item)
+        length += len(item) + 1
+    return b"'(" + b" ".join(out) + b")\n"
+
+
+def integers():
+    n = 0
+    while True:
+        yield b"%d" % (n * 7919 % 1000003)
+        n += 1
+
+
+def symbols():
+    n = 0
+    while True:
+        yield b"name-%d" % n
+        n += 1
+
+
+def one_symbol():
+    while True:
+        yield b"symbol"
+
+
+def nests():
+    while True:
+        yield b"(" * 198 + b"a" + b")" * 198
+
+
+def comment(size):
+    return b";" + b"c" * (size - 8) + b"\n'(a)\n"
+
+
+SOURCES = [
+    ("run", "13,000 spread prints", lambda half: spread_prints(MIB >> half, 13000 >> half)),
+    ("run", "nested sums, 60,000 operands", lambda half: nested_sums(60000 >> half)),
+    ("show", "integers", lambda half: quoted(integers(), MIB >> half)),
+    ("show", "distinct symbols", lambda half: quoted(symbols(), MIB >> half)),
+    ("show", "one symbol", lambda half: quoted(one_symbol(), MIB >> half)),
+    ("show", "199-level nests", lambda half: quoted(nests(), MIB >> half)),
+    ("show", "one long comment", lambda half: comment(MIB >> half)),
+]
+
+
+def measure(command, path):
+    """The least time of some runs, in seconds, and the greatest peak memory, in bytes."""
+    best, peak = None, 0
+    for _ in range(RUNS):
+        with open(path, "rb") as source, open(os.devnull, "wb") as sink:
+            start = time.perf_counter()
+            child = subprocess.Popen(command, stdin=source, stdout=sink)
+            _, status, usage = os.wait4(child.pid, 0)
+            took = time.perf_counter() - start
+        if status != 0:
+            sys.exit("%s ended with %d on %s" % (command, status, path))
+        best = took if best is None else min(best, took)
+        peak = max(peak, usage.ru_maxrss * 1024)
+    return best, peak
+
+
+def measure_lisp(lisp, path):
+    """Reads all forms of a file with a stock Lisp, and prints them."""
+    script = '(with-open-file (in "%s") (let ((*print-pretty* nil)) (loop for form = (read in nil in) until (eq form in) do (prin1 form) (terpri))))' % path
+    best = None
+    for _ in range(2):
+        start = time.perf_counter()
+        subprocess.run([lisp, "-q", "-q", "-norc", "-m", "500MB", "-x", script], stdout=subprocess.DEVNULL, check=True)
+        took = time.perf_counter() - start
+        best = took if best is None else min(best, took)
+    return best
+
+
+def main():
+    lisp = shutil.which("clisp")
+    subprocess.run([PROGRAM, "-", "-", "show"], stdin=subprocess.DEVNULL, check=True)
+    built = os.path.join(TOP, "crates", "ql", "out", "ql")
+    bad = []
+    print("%-4s %-30s %9s %9s %7s %8s %10s %10s" % ("", "source", "bytes", "seconds", "growth", "MB/s", "peak/byte", "clisp MB/s"))
+    with tempfile.TemporaryDirectory() as folder:
+        for command, name, make in SOURCES:
+            times = []
+            for half in (1, 0):
+                text = make(half)
+                path = os.path.join(folder, "source")
+                with open(path, "wb") as file:
+                    file.write(text)
+                times.append(measure([built, "-", "-", command], path))
+            (less, _), (took, peak) = times
+            growth, speed, weight = took / less, len(text) / took / 1e6, peak / len(text)
+            other = ""
+            if command == "show" and lisp:
+                slow = measure_lisp(lisp, path)
+                other = "%.2f" % (len(text) / slow / 1e6)
+                if speed < 3 * len(text) / slow / 1e6:
+                    bad.append("%s: less than three times as fast as clisp" % name)
+            print("%-4s %-30s %9d %9.4f %7.2f %8.1f %10.1f %10s" % (command, name, len(text), took, growth, speed, weight, other))
+            if growth > MOST_GROWTH:
+                bad.append("%s: grows %.2f-fold where the source doubles" % (name, growth))
+            if weight > MOST_BYTES and len(text) >= MIB // 4:
+                bad.append("%s: %.0f bytes a source byte" % (name, weight))
+    print("%d cores" % os.cpu_count())
+    for line in bad:
+        print("TOO MUCH: " + line)
+    return 1 if bad else 0
+
+
+if __name__ == "__main__":
+    sys.exit(main())

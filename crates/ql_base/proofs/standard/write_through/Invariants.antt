@@ -1,0 +1,6 @@
+-- An interrupted call leaves the bytes that the writer tells.
+use Rattle.std.specs.Io.KnownBytes.{Keeps}
+use Rattle.ql_base.proofs.standard.write_through.Given as goal
+
+abbrev pub invariant-loop : goal.invariant-loop
+invariant-loop g l = Keeps (g.W.Write.contents l.fn.inner) (g.W.Write.contents l.inner)

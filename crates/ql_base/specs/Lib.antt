@@ -1,0 +1,5 @@
+pub mod Limits
+pub mod Memory
+pub mod Names
+pub mod Outside
+pub mod Standard

@@ -1,0 +1,170 @@
+//! Names by number.
+
+ghost use Rattle.std.specs.Prelude.{◌≡◌, ◌<◌, ◌≤◌, ◌^◌, IfOk, OnErr, length, map, [], Some, slice_get};
+ghost use Rattle.ql_base.specs.Names.{AreDistinct, HasNumber, reserved, with_names};
+
+use indexmap::IndexSet;
+use std::alloc::{AllocError, Global};
+use std::marker::Model;
+
+// How many names a table can hold.
+const MOST_NAMES: usize = 4_294_967_295;
+
+/// The reserved words, in the order of their numbers.
+const RESERVED: [&[u8]; 46] = [
+    b"nil",
+    b"t",
+    b"quote",
+    b"eager",
+    b"defun",
+    b"defvar",
+    b"lambda",
+    b"qlambda",
+    b"setq",
+    b"if",
+    b"progn",
+    b"let",
+    b"qlet",
+    b"catch",
+    b"qcatch",
+    b"throw",
+    b"unwind-protect",
+    b"funcall",
+    b"print",
+    b"cons",
+    b"car",
+    b"cdr",
+    b"eq",
+    b"null",
+    b"not",
+    b"atom",
+    b"consp",
+    b"numberp",
+    b"symbolp",
+    b"+",
+    b"-",
+    b"*",
+    b"truncate",
+    b"rem",
+    b"=",
+    b"<",
+    b">",
+    b"<=",
+    b">=",
+    b"cond",
+    b"and",
+    b"or",
+    b"when",
+    b"unless",
+    b"let*",
+    b"list",
+];
+
+/// A table of names without repeats, numbered from 0 in the order in which they were first seen. It
+/// begins with the reserved words.
+#[derive(Drop)]
+pub struct Names {
+    alloc: Global,
+    texts: IndexSet<Vec<u8>>,
+}
+
+impl Model for Names {
+    ghost use Rattle.std.specs.Prelude.{List, ℕ, map};
+
+    ghost Value = { List (List ℕ) };
+
+    ghost view = { λ n. map (λ t. t.items) n.texts.keys };
+
+    ghost use Rattle.ql_base.specs.Names.{IsTable};
+
+    ghost invariant = { λ n. IsTable (map (λ t. t.items) n.texts.keys) };
+}
+
+impl Names {
+    /// The reserved words alone.
+    pub fn new(alloc: Global) -> Result<Names, AllocError>
+        ensures reserved { IfOk result (λ names. names ≡ reserved) }
+        ensures distinct { IfOk result (λ names. AreDistinct names) }
+    {
+        Names::of_words(alloc, &RESERVED)
+    }
+
+    // Each of these words in turn.
+    fn of_words(alloc: Global, words: &[&[u8]]) -> Result<Names, AllocError>
+        ensures names { IfOk result (λ names. names ≡ with_names [] (map (λ word. word.now) words.now)) }
+        ensures distinct { IfOk result (λ names. AreDistinct names) }
+    {
+        let texts = IndexSet::with_capacity(alloc, words.len())?;
+        let mut names = Names { alloc, texts };
+        for word in words {
+            names.number(*word)?;
+        }
+        Ok(names)
+    }
+
+    /// How many names there are.
+    pub fn len(&self) -> u32
+        ensures count { result ≡ length self.now }
+        ensures distinct { AreDistinct self.now }
+    {
+        self.texts.len() as u32
+    }
+
+    /// Gives the number of `text`, adding it last where it is new. A table of 4,294,967,295 names is
+    /// full: one more is want of memory. After want of memory the names are as before.
+    pub fn number(&mut self, text: &[u8]) -> Result<u32, AllocError>
+        ensures ok { IfOk result (λ n. HasNumber self.old text.now n self.new) }
+        ensures err { OnErr result (self.new ≡ self.old) }
+        ensures distinct { AreDistinct self.new }
+        ensures small { length self.new < 2 ^ 32 }
+    {
+        if let Some(n) = self.texts.get_index_of(text) {
+            return Ok(n as u32);
+        }
+        let n = self.texts.len();
+        if n == MOST_NAMES {
+            return Err(AllocError);
+        }
+        let owned = Vec::from_slice(self.alloc, text)?;
+        self.texts.insert(owned)?;
+        Ok(n as u32)
+    }
+
+    /// The name of this number.
+    pub fn text(&self, n: u32) -> &[u8]
+        requires { n < length self.now }
+        ensures name { Some result.now ≡ slice_get self.now n }
+        ensures distinct { AreDistinct self.now }
+    {
+        &self.texts[n as usize]
+    }
+}
+
+#[cfg(test)]
+mod tests {
+    use super::*;
+
+    #[test]
+    fn numbers_names_in_the_order_first_seen(rt: HostRuntime) -> Result<(), AllocError> {
+        let mut names = Names::new(rt.alloc())?;
+        let numbers: [(&[u8], u32); 9] = [
+            (b"nil", 0),
+            (b"t", 1),
+            (b"quote", 2),
+            (b"list", 45),
+            (b"x", 46),
+            (b"Nil", 47),
+            (b"x", 46),
+            (b"", 48),
+            (b"Nil", 47),
+        ];
+        for (text, number) in numbers {
+            assert!(rt; names.number(text)? == number);
+        }
+        assert_eq!(rt; names.len(), 49);
+        for (text, number) in numbers {
+            assert!(rt; number < names.len() && names.text(number) == text);
+        }
+        Ok(())
+    }
+}

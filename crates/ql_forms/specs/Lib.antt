@@ -1,0 +1,5 @@
+pub mod Bytes
+pub mod Form
+pub mod FormText
+pub mod Spells
+pub mod View

@@ -1,0 +1,26 @@
+//! What is true of forms and their texts, as functions that do nothing.
+
+ghost use Rattle.std.specs.Prelude.{◌≡◌, ℕ, List};
+ghost use Rattle.ql_forms.specs.Form.{Form, Forms, none, more};
+ghost use Rattle.ql_forms.specs.FormText.{form_text, forms_text, without_places, all_without_places, CanBeSpelled, AllCanBeSpelled};
+ghost use Rattle.ql_forms.specs.Spells.{Spells};
+
+/// What a text spells can be written.
+pub fn spelled_forms_can_be_spelled()
+    ensures { (b : List ℕ) (fs : Forms) → Spells b fs → AllCanBeSpelled 0 fs }
+{}
+
+/// The text of a form spells that form again, at other places.
+pub fn written_form_reads_back()
+    ensures { (f : Form) → CanBeSpelled 0 f → (g : Form) × (Spells (form_text f) (more g none)) × (without_places g ≡ without_places f) }
+{}
+
+/// The texts of forms, a line for each, spell those forms again, in order and at other places.
+pub fn forms_written_read_back()
+    ensures { (fs : Forms) → AllCanBeSpelled 0 fs → (gs : Forms) × (Spells (forms_text fs) gs) × (all_without_places gs ≡ all_without_places fs) }
+{}
+
+/// Forms that are alike but for their places have one text.
+pub fn places_are_not_written()
+    ensures { (f g : Form) → without_places f ≡ without_places g → form_text f ≡ form_text g }
+{}

@@ -1,0 +1,13 @@
+pub mod Tokens
+pub mod Complete
+pub mod Sound
+pub mod GoesOn
+pub mod Faults
+pub mod FaultKinds
+pub mod Judging
+pub mod Views
+pub mod Refusals
+pub mod Taking
+pub mod Naming
+pub mod Items
+pub mod TextEnd

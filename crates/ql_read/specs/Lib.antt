@@ -1,0 +1,7 @@
+pub mod ByteClass
+pub mod Fault
+pub mod Numbering
+pub mod Scan
+pub mod TextFault
+pub mod Told
+pub mod View

@@ -1,0 +1,26 @@
+-- What a reader stands for.
+use Rattle.std.specs.Prelude.{◌≡◌, ◌≤◌, ℕ, List, length, Some, None}
+use Rattle.ql_read.specs.TextFault.{limit}
+use Rattle.ql_read.specs.Scan.{State, scan, start, fault_of}
+use Rattle.ql_read.specs.View.{nested, state_of}
+use Rattle.ql_read.specs.declared.reader.Reader.{Reader}
+use Rattle.ql_read.specs.declared.reader.ReadRefusal.{ReadRefusal}
+
+abbrev pub told : Reader → State
+told r = state_of r.token r.taken (nested r.nesting)
+
+-- how many bytes the reader has taken
+abbrev pub taken_of : Reader → ℕ
+taken_of r = r.taken
+
+-- The reader is as it is after exactly these bytes. None of them is at fault, and they aren't too many.
+pub record HasTaken (r : Reader) (b : List ℕ) : Type 0 where
+  pub reading : r.refused ≡ None
+  pub scanned : told r ≡ scan start b
+  pub no_fault : fault_of (scan start b) ≡ None
+  pub counted : r.taken ≡ length b
+  pub short : length b ≤ limit
+
+-- the reader keeps this refusal, and answers it from now on
+abbrev pub HasFailed : Reader → ReadRefusal → Type 0
+HasFailed r refusal = r.refused ≡ Some refusal

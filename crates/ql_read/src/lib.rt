@@ -1,0 +1,17 @@
+//! The reader: bytes, in pieces of any size, to forms and the names of their symbols.
+#![tactic(auto)]
+
+mod byte_class;
+mod ending;
+mod item;
+pub mod laws;
+mod nesting;
+mod number;
+mod numbering;
+pub mod reader;
+mod scan;
+#[cfg(test)]
+mod slow;
+#[cfg(test)]
+mod tests;
+mod token;

@@ -1,0 +1,62 @@
+-- What is told of the code of small programs, computed.
+use Rattle.std.proofs.Common.{◌≡◌, [], ◌∷◌, Some, None, refl}
+use Rattle.std.specs.Prelude.{pos, codes, replicate}
+use Rattle.std.specs.Fmt.{digits}
+use Rattle.ql_base.specs.Limits.{usual}
+use Rattle.ql_base.specs.declared.fault.RunFault.TheVariants.{Overflow}
+use Rattle.ql_meaning.specs.Core.{Core, constant, sum, print}
+use Rattle.ql_meaning.specs.Meaning.{program_told}
+use Rattle.ql_meaning.specs.World.{pid}
+use Rattle.ql_meaning.specs.declared.world.Event.TheVariants.{Turn, Exit, EndOk, Stopped}
+use Rattle.ql_meaning.specs.declared.world.Stop.TheVariants.{Done, Fault, Deadlock}
+use Rattle.ql_top.specs.Code.{instruction, code_of_program}
+use Rattle.ql_top.specs.Machine.{code_told}
+use Rattle.ql_top.specs.declared.code.Op.TheVariants.{Lit, Sum, Print, Drop, End}
+
+-- (print (+ 1 2))
+abbrev sum_printed : Core
+sum_printed = print 0 (sum 7 (constant 10 (pos 1)) (constant 12 (pos 2)))
+
+its_code : code_of_program (sum_printed ∷ [])
+    ≡ instruction (Lit (pos 1)) 10 ∷ (instruction (Lit (pos 2)) 12 ∷ (instruction Sum 7 ∷ (instruction Print 0 ∷ (instruction Drop 0 ∷ (instruction End 0 ∷ [])))))
+its_code = refl
+
+sum_is_told : code_told (code_of_program (sum_printed ∷ [])) usual (replicate 5 1) ≡ Some (record {
+  output = codes "3\n";
+  journal = Turn (pid 1) 5 ∷ (Exit (pid 1) (record { 0 = 0 }) ∷ (EndOk (pid 1) ∷ (Stopped Done ∷ [])));
+  stop = Done;
+})
+unfolding digits
+sum_is_told = refl
+
+too_few : code_told (code_of_program (sum_printed ∷ [])) usual (replicate 4 1) ≡ None
+unfolding digits
+too_few = refl
+
+too_many : code_told (code_of_program (sum_printed ∷ [])) usual (replicate 6 1) ≡ None
+unfolding digits
+too_many = refl
+
+empty_is_told : code_told (code_of_program []) usual (replicate 1 1) ≡ program_told [] usual (replicate 1 1)
+empty_is_told = refl
+
+-- two top forms: a drop takes no tick
+drops_are_silent : code_told (code_of_program (constant 0 (pos 1) ∷ (constant 2 (pos 2) ∷ []))) usual (replicate 3 1) ≡ Some (record {
+  output = [];
+  journal = Turn (pid 1) 3 ∷ (Exit (pid 1) (record { 0 = 0 }) ∷ (EndOk (pid 1) ∷ (Stopped Done ∷ [])));
+  stop = Done;
+})
+drops_are_silent = refl
+
+-- (print (+ 9223372036854775807 1))
+overflow_is_told : code_told (code_of_program (print 0 (sum 7 (constant 10 (pos 9223372036854775807)) (constant 30 (pos 1))) ∷ [])) usual (replicate 3 1)
+    ≡ Some (record { output = []; journal = Turn (pid 1) 3 ∷ (Stopped (Fault Overflow (pid 1) 7) ∷ []); stop = Fault Overflow (pid 1) 7 })
+overflow_is_told = refl
+
+-- code that isn't sound
+rests_on_a_short_stack : code_told (instruction Drop 0 ∷ []) usual [] ≡ Some (record { output = []; journal = Stopped Deadlock ∷ []; stop = Deadlock })
+rests_on_a_short_stack = refl
+
+rests_outside : code_told (instruction (Lit (pos 1)) 0 ∷ []) usual (replicate 1 1)
+    ≡ Some (record { output = []; journal = Turn (pid 1) 1 ∷ (Stopped Deadlock ∷ []); stop = Deadlock })
+rests_outside = refl

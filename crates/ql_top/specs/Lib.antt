@@ -1,0 +1,11 @@
+pub mod Acts
+pub mod Code
+pub mod ErrorLine
+pub mod JournalText
+pub mod Machine
+pub mod Progress
+pub mod Reading
+pub mod Status
+pub mod Texts
+pub mod Top
+pub mod Words

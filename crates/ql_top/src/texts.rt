@@ -1,0 +1,53 @@
+//! Names in the lines that are written.
+
+ghost use Rattle.std.specs.Prelude.{◌≡◌};
+ghost use Rattle.ql_top.specs.Texts.{fault_name, limit_name, refusal_name};
+
+use ql_base::fault::RunFault;
+use ql_base::limits::LimitKind;
+
+/// The name of a run error.
+pub fn fault_name(kind: RunFault) -> &'static [u8]
+    ensures { result.now ≡ fault_name kind }
+{
+    match kind {
+        RunFault::Overflow => b"overflow",
+        RunFault::NotNumber => b"notnumber",
+        RunFault::NotPair => b"notpair",
+        RunFault::DivZero => b"divzero",
+        RunFault::Unbound => b"unbound",
+        RunFault::NoCatch => b"nocatch",
+        RunFault::DeadFuture => b"deadfuture",
+        RunFault::DeadClosure => b"deadclosure",
+        RunFault::WrongCount => b"wrongcount",
+        RunFault::NotFunction => b"notfunction",
+    }
+}
+
+/// The name of a limit.
+pub fn limit_name(kind: LimitKind) -> &'static [u8]
+    ensures { result.now ≡ limit_name kind }
+{
+    match kind {
+        LimitKind::Cells => b"cells",
+        LimitKind::Procs => b"procs",
+        LimitKind::Output => b"output",
+    }
+}
+
+/// The name of a kind of refusal.
+pub fn refusal_name(kind: u8) -> &'static [u8]
+    ensures { result.now ≡ refusal_name kind }
+{
+    match kind {
+        1 => b"badbyte",
+        2 => b"strayclose",
+        3 => b"baddot",
+        4 => b"badnumber",
+        5 => b"longname",
+        6 => b"toodeep",
+        7 => b"toolong",
+        8 => b"unfinished",
+        _ => b"badshape",
+    }
+}

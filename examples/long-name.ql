@@ -1,0 +1,2 @@
+; The longest name, and a quote mark.
+'aaaaaaaaaaaaaaaaaaaaaaaaaaaaaaaaaaaaaaaaaaaaaaaaaaaaaaaaaaaaaaaa
