@@ -9,5 +9,7 @@ pub mod Views
 pub mod Refusals
 pub mod Taking
 pub mod Naming
-pub mod Items
 pub mod TextEnd
+pub mod Forms
+pub mod Tables
+pub mod Steps

@@ -2,9 +2,17 @@
 use Rattle.std.proofs.Common.{◌≡◌, ℕ, zero, suc, ◌+◌, ◌<◌, ◌≤◌, List, [], ◌∷◌, ◌++◌, length, take, Some, None, refl, sym, ap, ◌∙◌, subst, arith, length-append, append_assoc, drop, get_or, ⊎_elim}
 use Rattle.std.proofs.lemmas.Bool.{cases_lt}
 use Rattle.std.proofs.lemmas.List.{take_all}
-use Rattle.ql_read.specs.TextFault.{CanGoOn, Kind, number_of, too_long, unfinished, limit, TextFault, by_byte, by_length, by_end, NoFaultIn, IsRefused}
-use Rattle.ql_read.specs.Scan.{State, between, in_comment, in_atom, after_dot, bad, step, scan, start, fault_of}
-use Rattle.ql_read.specs.Told.{told, HasTaken}
+use Rattle.ql_read.specs.TextFault.{CanGoOn, Kind, number_of, too_long, unfinished, limit, by_byte, by_length, by_end, NoFaultIn, IsRefused}
+use Rattle.ql_base.specs.Names.{reserved, with_names}
+use Rattle.ql_read.specs.Numbering.{GoesOn, state_names, ended}
+use Rattle.ql_read.specs.View.{nested, state_of}
+use Rattle.ql_read.specs.declared.token.Token.{Token}
+use Rattle.ql_read.proofs.Naming.{goes_on_before, goes_on_same}
+use Rattle.ql_read.proofs.Tables.{state_begins, well_scan, names_step}
+use Rattle.ql_read.specs.declared.token.Token.TheVariants.{Between}
+use Rattle.ql_forms.specs.Form.{none}
+use Rattle.ql_read.specs.Scan.{top, Stack, State, between, in_comment, in_atom, after_dot, bad, step, scan, start, fault_of}
+use Rattle.ql_read.specs.Told.{told, IsAt, HasTaken}
 use Rattle.std.specs.Prelude.{Result, Err}
 use Rattle.ql_read.specs.declared.reader.Reader.{Reader}
 use Rattle.ql_read.specs.declared.reader.ReadRefusal.{ReadRefusal}
@@ -17,17 +25,50 @@ use Rattle.ql_read.proofs.Refusals.{take_within, byte_refused, length_refused, r
 scan_one : (p : List ℕ) (b : ℕ) → scan start (p ++ b ∷ []) ≡ step (scan start p) b
 scan_one p b = scan_append start p (b ∷ [])
 
+pub is_at : (r : Reader) (s : State) → ((later : List (List ℕ)) → GoesOn r.nesting.names later → told later r ≡ s) → IsAt r s
+unfolding IsAt
+is_at r s f = f
+
+pub at_state : (r : Reader) (s : State) → IsAt r s → (later : List (List ℕ)) → GoesOn r.nesting.names later → told later r ≡ s
+unfolding IsAt
+at_state r s h = h
+
+-- What one byte leads to, under whichever names come later.
+abbrev pub Leads : Reader → ℕ → Token → (List (List ℕ) → State) → Type 0
+Leads old b token after =
+    (k : Stack) (later : List (List ℕ)) → GoesOn reserved later → GoesOn (with_names old.nesting.names (ended (state_of token old.taken k) b)) later
+    → after later ≡ step (state_of token old.taken (nested later old.nesting)) b
+
+pub goes_on_reserved : (old : Reader) (p : List ℕ) (later : List (List ℕ)) → HasTaken old p → GoesOn old.nesting.names later → GoesOn reserved later
+goes_on_reserved old p later h g =
+    let first = state_begins (scan start p) in
+    goes_on_before reserved (state_names (scan start p)) first.more later first.is (subst (λ z. GoesOn z later) h.numbered g)
+
+pub leads_on : (old : Reader) (p : List ℕ) (b : ℕ) (token : Token) (after : List (List ℕ) → State) (k : Stack) (later : List (List ℕ)) → HasTaken old p → token ≡ old.token → Leads old b token after
+    → GoesOn (with_names old.nesting.names (ended (state_of token old.taken k) b)) later → after later ≡ scan start (p ++ b ∷ [])
+leads_on old p b token after k later h same s g =
+    let before : GoesOn old.nesting.names later = goes_on_before old.nesting.names (with_names old.nesting.names (ended (state_of token old.taken k) b)) (ended (state_of token old.taken k) b) later refl g in
+    s k later (goes_on_reserved old p later h before) g ∙ ap (λ t. step (state_of t old.taken (nested later old.nesting)) b) same
+    ∙ ap (λ x. step x b) (at_state old (scan start p) h.scanned later before) ∙ sym (scan_one p b)
+
 -- one more byte, which is no fault
-pub taken_one : (old new : Reader) (p : List ℕ) (b : ℕ) → HasTaken old p → new.refused ≡ None → new.taken ≡ old.taken + 1 → old.taken < limit
-    → told new ≡ step (told old) b → fault_of (told new) ≡ None → HasTaken new (p ++ b ∷ [])
-taken_one old new p b h r n lt s g =
-    let all : told new ≡ scan start (p ++ b ∷ []) = s ∙ ap (λ x. step x b) h.scanned ∙ sym (scan_one p b) in
+pub taken_one : (old new : Reader) (p : List ℕ) (b : ℕ) (token : Token) → HasTaken old p → new.refused ≡ None → new.taken ≡ old.taken + 1 → old.taken < limit → token ≡ old.token
+    → Leads old b token (λ later. told later new) → ((k : Stack) → new.nesting.names ≡ with_names old.nesting.names (ended (state_of token old.taken k) b))
+    → ((k : Stack) → fault_of (state_of new.token new.taken k) ≡ None) → HasTaken new (p ++ b ∷ [])
+taken_one old new p b token h r n lt same s names g =
+    let now = nested old.nesting.names old.nesting in
+    let all = λ (later : List (List ℕ)) (goes : GoesOn new.nesting.names later). leads_on old p b token (λ later. told later new) now later h same s (subst (λ z. GoesOn z later) (names now) goes) in
+    let next : told new.nesting.names new ≡ scan start (p ++ b ∷ []) = all new.nesting.names (goes_on_same new.nesting.names) in
+    let well : fault_of (scan start (p ++ b ∷ [])) ≡ None = subst (λ x. fault_of x ≡ None) next (g (nested new.nesting.names new.nesting)) in
+    let is : state_of token old.taken now ≡ scan start p = ap (λ t. state_of t old.taken now) same ∙ at_state old (scan start p) h.scanned old.nesting.names (goes_on_same old.nesting.names) in
     let counted : length (p ++ b ∷ []) ≡ length p + 1 = length-append {A = ℕ} p (b ∷ []) in
     let before : old.taken ≡ length p = h.counted in
     record {
       reading = r;
-      scanned = all;
-      no_fault = subst (λ x. fault_of x ≡ None) all g;
+      scanned = is_at new (scan start (p ++ b ∷ [])) all;
+      numbered = names now ∙ ap (λ z. with_names old.nesting.names (ended z b)) is ∙ ap (λ z. with_names z (ended (scan start p) b)) h.numbered
+          ∙ sym (names_step (scan start p) b (well_scan start p tt) (subst (λ x. fault_of x ≡ None) (scan_one p b) well)) ∙ ap state_names (sym (scan_one p b));
+      no_fault = well;
       counted = omega (arith, n, before, counted);
       short = omega (arith, lt, before, counted);
     }
@@ -53,21 +94,18 @@ fault_here p b at kind g e =
     (λ (le : length p ≤ at). omega (arith, there, all, le))
     (cases_lt at (length p))
 
-scanned_bad : (old : Reader) (s : State) (p : List ℕ) (b at : ℕ) (kind : Kind) → HasTaken old p → s ≡ step (told old) b → fault_of s ≡ Some (at, kind) → scan start (p ++ b ∷ []) ≡ bad at kind
-scanned_bad old s p b at kind h e f = scan_one p b ∙ ap (λ x. step x b) (sym h.scanned) ∙ sym e ∙ is_bad s at kind f
-
-pub byte_is_bad : (old : Reader) (s : State) (p : List ℕ) (b at : ℕ) (kind : Kind) → HasTaken old p → old.taken < limit → s ≡ step (told old) b → fault_of s ≡ Some (at, kind)
+pub byte_is_bad : (old : Reader) (s : State) (p : List ℕ) (b at : ℕ) (kind : Kind) → HasTaken old p → old.taken < limit → s ≡ scan start (p ++ b ∷ []) → fault_of s ≡ Some (at, kind)
     → IsRefused (p ++ b ∷ []) (number_of kind) at
 byte_is_bad old s p b at kind h lt e f =
-    let is : scan start (p ++ b ∷ []) ≡ bad at kind = scanned_bad old s p b at kind h e f in
+    let is : scan start (p ++ b ∷ []) ≡ bad at kind = sym e ∙ is_bad s at kind f in
     let here : at ≡ length p = fault_here p b at kind h.no_fault is in
     let before : old.taken ≡ length p = h.counted in
     byte_refused (p ++ b ∷ []) at kind is (omega (arith, here, before, lt))
 
-pub bad_is_here : (old : Reader) (s : State) (p : List ℕ) (b at : ℕ) (kind : Kind) → HasTaken old p → s ≡ step (told old) b → fault_of s ≡ Some (at, kind)
+pub bad_is_here : (old : Reader) (s : State) (p : List ℕ) (b at : ℕ) (kind : Kind) → HasTaken old p → s ≡ scan start (p ++ b ∷ []) → fault_of s ≡ Some (at, kind)
     → (at ≡ length p) × (number_of kind < unfinished)
 bad_is_here old s p b at kind h e f =
-    let is : scan start (p ++ b ∷ []) ≡ bad at kind = scanned_bad old s p b at kind h e f in
+    let is : scan start (p ++ b ∷ []) ≡ bad at kind = sym e ∙ is_bad s at kind f in
     (fault_here p b at kind h.no_fault is, (small_kind kind).1)
 
 pub one_too_many : (old : Reader) (p : List ℕ) (b : ℕ) → HasTaken old p → limit ≤ old.taken → IsRefused (p ++ b ∷ []) too_long limit × (limit ≡ length p)
@@ -104,9 +142,26 @@ near_fault p t n k (e, lt) = (omega (arith, e, length-append {A = ℕ} p t), lt)
 -- bytes that were taken have no fault
 pub taken_well : (r : Reader) (b : List ℕ) → HasTaken r b → NoFaultIn b
 taken_well r b h kind at (by_byte {n = n} lt f) = absurd (f.least.none_goes_on (front_can (n + 1) b (can_go_on b h.no_fault)))
-taken_well r b h kind at (by_length none long) = let short : length b ≤ limit = h.short in absurd (omega (arith, long, short))
-taken_well r b h kind at (by_end none short not) = refl
+taken_well r b h kind at (by_length before long) = let short : length b ≤ limit = h.short in absurd (omega (arith, long, short))
+taken_well r b h kind at (by_end before short not) = refl
 
 -- a whole piece was taken
 pub piece_taken : (r : Reader) (b piece : List ℕ) (i : ℕ) → length piece ≤ i → HasTaken r (b ++ take i piece) → NoFaultIn (b ++ piece)
 piece_taken r b piece i le h = subst (λ t. NoFaultIn (b ++ t)) (take_all i piece le) (taken_well r (b ++ take i piece) h)
+
+-- no bytes have no fault
+pub none_bad : NoFaultIn []
+none_bad kind at (by_byte {n = n} lt f) = absurd (f.least.none_goes_on (front_can (n + 1) [] (can_go_on [] refl)))
+none_bad kind at (by_length before long) = absurd (omega (arith, long))
+none_bad kind at (by_end before short not) = refl
+
+-- a new reader
+pub taken_none : (r : Reader) → r.refused ≡ None → r.taken ≡ 0 → r.token ≡ Between → ((later : List (List ℕ)) → nested later r.nesting ≡ top none) → r.nesting.names ≡ reserved → HasTaken r []
+taken_none r e n t k names = record {
+  reading = e;
+  scanned = is_at r start (λ later g. ap (λ x. state_of x r.taken (nested later r.nesting)) t ∙ ap (λ o. between o (nested later r.nesting)) n ∙ ap (between 0) (k later));
+  numbered = names;
+  no_fault = refl;
+  counted = n;
+  short = omega arith;
+}

@@ -54,7 +54,12 @@ fn is_letter(b: u8) -> bool
 pub fn class_of(b: u8) -> ByteClass
     ensures { class_told result ≡ class b }
 {
-    if is_blank(b) {
+    // Parentheses come first: most bytes of deep lists are parentheses.
+    if b == b'(' {
+        ByteClass::Start(FormStart::Opening)
+    } else if b == b')' {
+        ByteClass::Closing
+    } else if is_blank(b) {
         ByteClass::Blank
     } else if is_letter(b) {
         ByteClass::Start(FormStart::Letter)
@@ -64,10 +69,6 @@ pub fn class_of(b: u8) -> ByteClass
         ByteClass::Start(FormStart::Plus)
     } else if b == b'-' {
         ByteClass::Start(FormStart::Minus)
-    } else if b == b'(' {
-        ByteClass::Start(FormStart::Opening)
-    } else if b == b')' {
-        ByteClass::Closing
     } else if b == b'\'' {
         ByteClass::Start(FormStart::Mark)
     } else if b == b';' {

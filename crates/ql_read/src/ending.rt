@@ -1,62 +1,65 @@
 //! The end of a text.
 
-ghost use Rattle.std.specs.Prelude.{◌≡◌, ℕ, IfOk};
-ghost use Rattle.ql_read.specs.Scan.{finish, push, whole};
-ghost use Rattle.ql_read.specs.View.{item_form, items_told, nested, state_of};
+ghost use Rattle.std.specs.Prelude.{◌≡◌, ℕ, List, IfOk, IfSome};
+ghost use Rattle.ql_base.specs.Names.{reserved, with_names};
+ghost use Rattle.ql_read.specs.Numbering.{GoesOn, pending};
+ghost use Rattle.ql_read.specs.Scan.{Stack, finish, whole};
+ghost use Rattle.ql_read.specs.View.{nested, state_of, text_told};
 
-use crate::item::Item;
 use crate::nesting::Nesting;
 use crate::token::Token;
+use ql_forms::form::Text;
 use sqlite_items::Items;
 use std::alloc::AllocError;
 
-/// What stands outside all lists in a text that ends here, or none where it may not end.
-pub fn items_at_end(nesting: Nesting, token: Token) -> Result<Option<Vec<Item>>, AllocError>
-    ensures { (o : ℕ) → IfOk result (λ r. items_told r ≡ finish (state_of token o (nested nesting))) }
+/// The forms of a text that ends here, or none where it may not end.
+pub fn text_at_end(nesting: Nesting, token: Token) -> Result<Option<Text>, AllocError>
+    ensures forms { (o : ℕ) (k : Stack) (later : List (List ℕ)) → GoesOn reserved later → GoesOn (with_names nesting.names (pending (state_of token o k))) later
+        → IfOk result (λ r. text_told later r ≡ finish (state_of token o (nested later nesting))) }
+    ensures names { (o : ℕ) (k : Stack) → IfOk result (λ r. IfSome r (λ text. text.names ≡ with_names nesting.names (pending (state_of token o k)))) }
 {
+    let mut nesting = nesting;
     match token {
         Token::Between => Ok(all_closed(nesting)),
         Token::InComment => Ok(all_closed(nesting)),
         Token::InSymbol { at, letters } => {
-            let letters = Items::from_vec(letters);
-            after_last(nesting, Item::Symbol { at, letters })
+            nesting.put_symbol(at, &letters)?;
+            Ok(all_closed(nesting))
         }
         Token::InSign {
             at,
             negative: _,
             byte,
         } => {
-            let mut letters = Vec::new(nesting.alloc);
-            letters.push(byte)?;
-            let letters = Items::from_vec(letters);
-            after_last(nesting, Item::Symbol { at, letters })
+            nesting.put_symbol(at, &[byte])?;
+            Ok(all_closed(nesting))
         }
         Token::InNumber { at, number } => {
-            let value = number.to_i64();
-            after_last(nesting, Item::Integer { at, value })
+            nesting.put(number.form(at))?;
+            Ok(all_closed(nesting))
         }
         Token::AfterDot => Ok(None),
         Token::Bad { .. } => Ok(None),
     }
 }
 
-/// The items outside all lists, where no list and no quote mark is open.
-fn all_closed(nesting: Nesting) -> Option<Vec<Item>>
-    ensures { items_told result ≡ whole (nested nesting) }
+/// The forms outside all lists, where no list and no quote mark is open.
+fn all_closed(nesting: Nesting) -> Option<Text>
+    ensures forms { (later : List (List ℕ)) → text_told later result ≡ whole (nested later nesting) }
+    ensures names { IfSome result (λ text. text.names ≡ nesting.names) }
 {
     let Nesting {
         alloc: _,
         frames,
         top,
+        names,
     } = nesting;
-    if frames.is_empty() { Some(top) } else { None }
-}
-
-/// The same after one item more.
-fn after_last(nesting: Nesting, item: Item) -> Result<Option<Vec<Item>>, AllocError>
-    ensures { IfOk result (λ r. items_told r ≡ whole (push (item_form item) (nested nesting))) }
-{
-    let mut nesting = nesting;
-    nesting.put(item)?;
-    Ok(all_closed(nesting))
+    if frames.is_empty() {
+        Some(Text {
+            forms: Items::from_vec(top),
+            names,
+        })
+    } else {
+        None
+    }
 }

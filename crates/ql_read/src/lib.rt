@@ -3,11 +3,10 @@
 
 mod byte_class;
 mod ending;
-mod item;
 pub mod laws;
+mod lists;
 mod nesting;
 mod number;
-mod numbering;
 pub mod reader;
 mod scan;
 #[cfg(test)]

@@ -1,43 +1,94 @@
 //! What is open around the next byte.
 
-ghost use Rattle.std.specs.Prelude.{◌≡◌, ◌+◌, OnOk, IfOk};
-ghost use Rattle.ql_forms.specs.Form.{none};
+ghost use Rattle.std.specs.Prelude.{◌≡◌, ◌+◌, ℕ, List, OnOk, IfOk};
+ghost use Rattle.ql_base.specs.Names.{reserved, with_name};
+ghost use Rattle.ql_forms.specs.Form.{none, atom, symbol};
+ghost use Rattle.ql_forms.specs.View.{form_of};
+ghost use Rattle.ql_read.specs.Numbering.{GoesOn};
 ghost use Rattle.ql_read.specs.Scan.{top, push, close, put_dot};
-ghost use Rattle.ql_read.specs.View.{item_form, nested, state_of, deeper_at, is_past};
+ghost use Rattle.ql_read.specs.View.{nested, state_of, deeper_at, is_past};
 
-use crate::item::{Frame, Item};
+use crate::lists::{dotted_list, proper_list, quoted};
 use crate::token::{Fault, Token};
-use sqlite_items::{Boxed, Items};
+use ql_base::names::Names;
+use ql_base::numbers::Offset;
+use ql_forms::form::{Atom, Form};
+use sqlite_items::Boxed;
 use std::alloc::{AllocError, Global};
 
 /// How many levels stand inside one another at most.
 const LEVELS: usize = 200;
 
-/// The lists and quote marks that are open, the outermost first, and the items outside all of them.
+/// A list or a quote mark that is open. Each is a level.
+#[derive(Drop)]
+pub enum Frame {
+    /// The items so far.
+    InList {
+        at: u64,
+        items: Vec<Form>,
+    },
+    /// After the dot, whose form is awaited.
+    InTail {
+        at: u64,
+        items: Vec<Form>,
+    },
+    /// After the form after the dot.
+    PastTail {
+        at: u64,
+        items: Vec<Form>,
+        tail: Boxed<Form>,
+    },
+    /// After a quote mark, whose form is awaited.
+    InQuote {
+        at: u64,
+    },
+}
+
+/// The lists and quote marks that are open, the outermost first, the forms outside all of them, and
+/// the names of the symbols so far.
 #[derive(Drop)]
 pub struct Nesting {
     pub alloc: Global,
     pub frames: Vec<Frame>,
-    pub top: Vec<Item>,
+    pub top: Vec<Form>,
+    pub names: Names,
 }
 
 impl Nesting {
-    /// Nothing is open. It takes no memory.
-    pub fn new(alloc: Global) -> Nesting
-        ensures { nested result ≡ top none }
+    /// Nothing is open.
+    pub fn new(alloc: Global) -> Result<Nesting, AllocError>
+        ensures nothing { (later : List (List ℕ)) → IfOk result (λ n. nested later n ≡ top none) }
+        ensures names { IfOk result (λ n. n.names ≡ reserved) }
     {
-        Nesting {
+        let names = Names::new(alloc)?;
+        Ok(Nesting {
             alloc,
             frames: Vec::new(alloc),
             top: Vec::new(alloc),
-        }
+            names,
+        })
     }
 
-    /// An item has ended. It ends the quote marks directly around it too.
-    pub fn put(&mut self, item: Item) -> Result<(), AllocError>
-        ensures { OnOk result (nested self.new ≡ push (item_form item) (nested self.old)) }
+    /// A symbol of these letters has ended.
+    pub fn put_symbol(&mut self, at: u64, letters: &[u8]) -> Result<(), AllocError>
+        ensures ok { (later : List (List ℕ)) → GoesOn reserved later → GoesOn (with_name self.old.names letters.now) later
+            → OnOk result (nested later self.new ≡ push (atom at (symbol letters.now)) (nested later self.old)) }
+        ensures names { OnOk result (self.new.names ≡ with_name self.old.names letters.now) }
     {
-        let mut ended = item;
+        let number = self.names.number(letters)?;
+        self.put(Form::Atom {
+            at: Offset(at),
+            atom: Atom::Sym(number),
+        })
+    }
+
+    /// A form has ended. It ends the quote marks directly around it too.
+    pub fn put(&mut self, form: Form) -> Result<(), AllocError>
+        ensures ok { (later : List (List ℕ)) → GoesOn reserved later
+            → OnOk result (nested later self.new ≡ push (form_of later form) (nested later self.old)) }
+        ensures names { self.new.names ≡ self.old.names }
+    {
+        let mut ended = form;
         'frames: loop {
             match self.frames.pop() {
                 None => {
@@ -45,10 +96,7 @@ impl Nesting {
                     return Ok(());
                 }
                 Some(Frame::InQuote { at }) => {
-                    ended = Item::Quoted {
-                        at,
-                        item: Boxed::new(self.alloc, ended)?,
-                    };
+                    ended = quoted(self.alloc, at, ended)?;
                 }
                 Some(Frame::InList { at, items }) => {
                     let mut more = items;
@@ -57,11 +105,8 @@ impl Nesting {
                     return Ok(());
                 }
                 Some(Frame::InTail { at, items }) => {
-                    self.frames.push(Frame::PastTail {
-                        at,
-                        items,
-                        tail: ended,
-                    })?;
+                    let tail = Boxed::new(self.alloc, ended)?;
+                    self.frames.push(Frame::PastTail { at, items, tail })?;
                     return Ok(());
                 }
                 Some(Frame::PastTail { at, items, tail }) => {
@@ -74,13 +119,15 @@ impl Nesting {
     }
 
     /// A closing parenthesis.
+    #[inline(always)]
     pub fn close(&mut self, at: u64) -> Result<Token, AllocError>
-        ensures { IfOk result (λ t. state_of t (at + 1) (nested self.new) ≡ close at (nested self.old)) }
+        ensures ok { (later : List (List ℕ)) → GoesOn reserved later
+            → IfOk result (λ t. state_of t (at + 1) (nested later self.new) ≡ close at (nested later self.old)) }
+        ensures names { self.new.names ≡ self.old.names }
     {
         match self.frames.pop() {
             Some(Frame::InList { at: from, items }) => {
-                let items = Items::from_vec(items);
-                self.put(Item::List { at: from, items })?;
+                self.put(proper_list(from, items))?;
                 Ok(Token::Between)
             }
             Some(
@@ -90,13 +137,8 @@ impl Nesting {
                     tail,
                 },
             ) => {
-                let items = Items::from_vec(items);
-                let tail = Boxed::new(self.alloc, tail)?;
-                self.put(Item::Dotted {
-                    at: from,
-                    items,
-                    tail,
-                })?;
+                let list = dotted_list(from, items, tail.into_inner())?;
+                self.put(list)?;
                 Ok(Token::Between)
             }
             Some(Frame::InTail { .. }) => Ok(Token::Bad {
@@ -115,8 +157,10 @@ impl Nesting {
     }
 
     /// One more level.
+    #[inline(always)]
     pub fn deeper(&mut self, at: u64, frame: Frame) -> Result<Token, AllocError>
-        ensures { IfOk result (λ t. state_of t (at + 1) (nested self.new) ≡ deeper_at at frame (nested self.old)) }
+        ensures ok { (later : List (List ℕ)) → IfOk result (λ t. state_of t (at + 1) (nested later self.new) ≡ deeper_at later at frame (nested later self.old)) }
+        ensures names { self.new.names ≡ self.old.names }
     {
         if self.frames.len() < LEVELS {
             self.frames.push(frame)?;
@@ -131,7 +175,8 @@ impl Nesting {
 
     /// A dot. It stands only in a list with an item, and only once.
     pub fn put_dot(&mut self, at: u64) -> Result<Token, AllocError>
-        ensures { IfOk result (λ t. state_of t (at + 1) (nested self.new) ≡ put_dot at (nested self.old)) }
+        ensures ok { (later : List (List ℕ)) → IfOk result (λ t. state_of t (at + 1) (nested later self.new) ≡ put_dot at (nested later self.old)) }
+        ensures names { self.new.names ≡ self.old.names }
     {
         match self.frames.pop() {
             Some(Frame::InList { at: from, items }) => {
@@ -166,7 +211,7 @@ impl Nesting {
 
     /// Whether the form after the dot of the innermost list has ended, so that no other may begin.
     pub fn is_past_tail(&self) -> bool
-        ensures { result ≡ is_past (nested self.now) }
+        ensures { (later : List (List ℕ)) → result ≡ is_past (nested later self.now) }
     {
         match self.frames.last() {
             Some(Frame::PastTail { .. }) => true,

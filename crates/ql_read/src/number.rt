@@ -1,7 +1,12 @@
 //! Integers, digit by digit.
 
-ghost use Rattle.std.specs.Prelude.{◌≡◌, ◌≤◌, ◌+◌, ◌-◌, ◌*◌, leb, true, false, IfSome, IfNone};
+ghost use Rattle.std.specs.Prelude.{◌≡◌, ◌≤◌, ◌+◌, ◌-◌, ◌*◌, leb, true, false, IfSome, IfNone, ℕ, List};
+ghost use Rattle.ql_forms.specs.Form.{atom, integer};
 ghost use Rattle.ql_forms.specs.Spells.{most, signed};
+ghost use Rattle.ql_forms.specs.View.{form_of};
+
+use ql_base::numbers::Offset;
+use ql_forms::form::{Atom, Form};
 
 /// A sign and a magnitude which together fit 64 bits.
 #[derive(Clone, Copy, Debug, PartialEq, Eq)]
@@ -57,8 +62,18 @@ impl Number {
         }
     }
 
+    /// The form of the number.
+    pub fn form(self, at: u64) -> Form
+        ensures { (names : List (List ℕ)) → form_of names result ≡ atom at (integer (signed self.negative self.value)) }
+    {
+        Form::Atom {
+            at: Offset(at),
+            atom: Atom::Int(self.to_i64()),
+        }
+    }
+
     /// The integer.
-    pub fn to_i64(self) -> i64
+    fn to_i64(self) -> i64
         ensures { result ≡ signed self.negative self.value }
     {
         if !self.negative {

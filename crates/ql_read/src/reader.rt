@@ -1,14 +1,13 @@
 //! The reader, which takes a text in pieces of any size.
 
-ghost use Rattle.std.specs.Prelude.{◌≡◌, ◌≤◌, ◌<◌, ◌+◌, ℕ, List, [], ◌∷◌, ◌++◌, length, Some, IfOk, IfErr, IsOk, OnOk};
+ghost use Rattle.std.specs.Prelude.{◌≡◌, ◌≤◌, ◌<◌, ◌+◌, ℕ, List, [], ◌∷◌, ◌++◌, length, Some, IfOk, IfErr, OnOk};
 ghost use Rattle.ql_forms.specs.View.{forms_of};
 ghost use Rattle.ql_read.specs.TextFault.{IsRead, IsRefused, NoFaultIn, limit, unfinished};
 ghost use Rattle.ql_read.specs.Told.{HasTaken, HasFailed, taken_of};
 ghost use Rattle.ql_read.specs.declared.reader.ReadRefusal.TheVariants.{Bad};
 
-use crate::ending::items_at_end;
+use crate::ending::text_at_end;
 use crate::nesting::Nesting;
-use crate::numbering::text_of;
 use crate::scan::take_byte;
 use crate::token::Token;
 use ql_forms::form::Text;
@@ -45,7 +44,6 @@ const UNFINISHED: u8 = 8;
 /// After a refusal, also for want of memory, it answers that same refusal to each later call.
 #[derive(Drop)]
 pub struct Reader {
-    alloc: Global,
     taken: u64,
     token: Token,
     nesting: Nesting,
@@ -53,18 +51,16 @@ pub struct Reader {
 }
 
 impl Reader {
-    /// A reader that has taken nothing yet. It takes no memory.
+    /// A reader that has taken nothing yet, with the reserved words for names.
     pub fn new(alloc: Global) -> Result<Reader, AllocError>
         ensures taken { IfOk result (λ r. HasTaken r []) }
         ensures counted { IfOk result (λ r. taken_of r ≡ 0) }
         ensures no_fault { NoFaultIn [] }
-        ensures always { IsOk result }
     {
         Ok(Reader {
-            alloc,
             taken: 0,
             token: Token::Between,
-            nesting: Nesting::new(alloc),
+            nesting: Nesting::new(alloc)?,
             refused: None,
         })
     }
@@ -101,7 +97,6 @@ impl Reader {
         ensures stays { (r : ReadRefusal) → HasFailed self r → result ≡ Err r }
     {
         let Reader {
-            alloc,
             taken,
             token,
             nesting,
@@ -110,16 +105,13 @@ impl Reader {
         if let Some(refusal) = refused {
             return Err(refusal);
         }
-        match items_at_end(nesting, token) {
-            Err(error) => Err(ReadRefusal::Memory(error)),
+        match text_at_end(nesting, token) {
+            Ok(Some(text)) => Ok(text),
             Ok(None) => Err(ReadRefusal::Bad {
                 kind: UNFINISHED,
                 at: taken,
             }),
-            Ok(Some(items)) => match text_of(alloc, items.as_slice()) {
-                Ok(text) => Ok(text),
-                Err(error) => Err(ReadRefusal::Memory(error)),
-            },
+            Err(error) => Err(ReadRefusal::Memory(error)),
         }
     }
 

@@ -1,25 +1,28 @@
 //! One byte more.
 
-ghost use Rattle.std.specs.Prelude.{◌≡◌, ◌+◌, ℕ, [], ◌∷◌, IfOk};
+ghost use Rattle.std.specs.Prelude.{◌≡◌, ◌+◌, ℕ, List, [], ◌∷◌, IfOk, OnOk};
+ghost use Rattle.ql_base.specs.Names.{reserved, with_names};
 ghost use Rattle.ql_forms.specs.Bytes.{Class, class};
 ghost use Rattle.ql_read.specs.Scan.{Stack, in_atom, of_symbol, of_sign, of_number, next, atom_or_bad, form_in, step_between, step_atom, step_dot, step};
 ghost use Rattle.ql_read.specs.ByteClass.{start_told};
+ghost use Rattle.ql_read.specs.Numbering.{GoesOn, ended, ended_by};
 ghost use Rattle.ql_read.specs.View.{nested, state_of, form_from};
 
 use crate::byte_class::{ByteClass, FormStart, class_of};
-use crate::item::{Frame, Item};
-use crate::nesting::Nesting;
+use crate::nesting::{Frame, Nesting};
 use crate::number::Number;
 use crate::token::{Fault, Token};
-use sqlite_items::Items;
 use std::alloc::{AllocError, Global};
 
 /// How many bytes a name has at most.
 const LONGEST_NAME: usize = 64;
 
 /// Takes the byte `b` at the offset `at`, which goes on with `token`.
+#[inline(always)]
 pub fn take_byte(nesting: &mut Nesting, token: Token, at: u64, b: u8) -> Result<Token, AllocError>
-    ensures { IfOk result (λ t. state_of t (at + 1) (nested nesting.new) ≡ step (state_of token at (nested nesting.old)) b) }
+    ensures ok { (k : Stack) (later : List (List ℕ)) → GoesOn reserved later → GoesOn (with_names nesting.old.names (ended (state_of token at k) b)) later
+        → IfOk result (λ t. state_of t (at + 1) (nested later nesting.new) ≡ step (state_of token at (nested later nesting.old)) b) }
+    ensures names { (k : Stack) → OnOk result (nesting.new.names ≡ with_names nesting.old.names (ended (state_of token at k) b)) }
 {
     match token {
         Token::Between => begin(nesting, at, b),
@@ -43,8 +46,11 @@ pub fn take_byte(nesting: &mut Nesting, token: Token, at: u64, b: u8) -> Result<
 }
 
 /// A byte between tokens.
+#[inline(always)]
 fn begin(nesting: &mut Nesting, at: u64, b: u8) -> Result<Token, AllocError>
-    ensures { IfOk result (λ t. state_of t (at + 1) (nested nesting.new) ≡ step_between at (nested nesting.old) b (class b)) }
+    ensures ok { (later : List (List ℕ)) → GoesOn reserved later
+        → IfOk result (λ t. state_of t (at + 1) (nested later nesting.new) ≡ step_between at (nested later nesting.old) b (class b)) }
+    ensures names { nesting.new.names ≡ nesting.old.names }
 {
     match class_of(b) {
         ByteClass::Blank => Ok(Token::Between),
@@ -60,10 +66,12 @@ fn begin(nesting: &mut Nesting, at: u64, b: u8) -> Result<Token, AllocError>
 }
 
 /// A form begins, unless the innermost list has its tail.
+#[inline(always)]
 fn form_or_bad(nesting: &mut Nesting, at: u64, b: u8, start: FormStart) -> Result<Token, AllocError>
     requires { start_told start ≡ class b }
-    ensures { IfOk result (λ t. state_of t (at + 1) (nested nesting.new)
-        ≡ form_in at (nested nesting.old) (form_from at (nested nesting.old) b (start_told start))) }
+    ensures ok { (later : List (List ℕ)) → IfOk result (λ t. state_of t (at + 1) (nested later nesting.new)
+        ≡ form_in at (nested later nesting.old) (form_from at (nested later nesting.old) b (start_told start))) }
+    ensures names { nesting.new.names ≡ nesting.old.names }
 {
     if nesting.is_past_tail() {
         Ok(Token::Bad {
@@ -76,9 +84,11 @@ fn form_or_bad(nesting: &mut Nesting, at: u64, b: u8, start: FormStart) -> Resul
 }
 
 /// A form begins.
+#[inline(always)]
 fn start_form(nesting: &mut Nesting, at: u64, b: u8, start: FormStart) -> Result<Token, AllocError>
     requires { start_told start ≡ class b }
-    ensures { IfOk result (λ t. state_of t (at + 1) (nested nesting.new) ≡ form_from at (nested nesting.old) b (start_told start)) }
+    ensures ok { (later : List (List ℕ)) → IfOk result (λ t. state_of t (at + 1) (nested later nesting.new) ≡ form_from at (nested later nesting.old) b (start_told start)) }
+    ensures names { nesting.new.names ≡ nesting.old.names }
 {
     match start {
         FormStart::Letter => {
@@ -116,8 +126,9 @@ fn after_symbol(
     letters: Vec<u8>,
     b: u8,
 ) -> Result<Token, AllocError>
-    ensures { IfOk result (λ t. state_of t (at + 1) (nested nesting.new)
-        ≡ step_atom at from (of_symbol letters.items) (nested nesting.old) b (class b)) }
+    ensures ok { (later : List (List ℕ)) → GoesOn reserved later → GoesOn (with_names nesting.old.names (ended_by (class b) (letters.items ∷ []))) later
+        → IfOk result (λ t. state_of t (at + 1) (nested later nesting.new) ≡ step_atom at from (of_symbol letters.items) (nested later nesting.old) b (class b)) }
+    ensures names { OnOk result (nesting.new.names ≡ with_names nesting.old.names (ended_by (class b) (letters.items ∷ []))) }
 {
     match class_of(b) {
         ByteClass::Start(FormStart::Letter) => longer(at, from, letters, b),
@@ -129,8 +140,7 @@ fn after_symbol(
             fault: Fault::BadDot,
         }),
         _ => {
-            let letters = Items::from_vec(letters);
-            nesting.put(Item::Symbol { at: from, letters })?;
+            nesting.put_symbol(from, &letters)?;
             begin(nesting, at, b)
         }
     }
@@ -164,8 +174,9 @@ fn after_sign(
     byte: u8,
     b: u8,
 ) -> Result<Token, AllocError>
-    ensures { IfOk result (λ t. state_of t (at + 1) (nested nesting.new)
-        ≡ step_atom at from (of_sign negative byte) (nested nesting.old) b (class b)) }
+    ensures ok { (later : List (List ℕ)) → GoesOn reserved later → GoesOn (with_names nesting.old.names (ended_by (class b) ((byte ∷ []) ∷ []))) later
+        → IfOk result (λ t. state_of t (at + 1) (nested later nesting.new) ≡ step_atom at from (of_sign negative byte) (nested later nesting.old) b (class b)) }
+    ensures names { OnOk result (nesting.new.names ≡ with_names nesting.old.names (ended_by (class b) ((byte ∷ []) ∷ []))) }
 {
     match class_of(b) {
         ByteClass::Start(FormStart::Digit) => Ok(Token::InNumber {
@@ -180,10 +191,7 @@ fn after_sign(
             fault: Fault::BadDot,
         }),
         _ => {
-            let mut letters = Vec::new(nesting.alloc);
-            letters.push(byte)?;
-            let letters = Items::from_vec(letters);
-            nesting.put(Item::Symbol { at: from, letters })?;
+            nesting.put_symbol(from, &[byte])?;
             begin(nesting, at, b)
         }
     }
@@ -207,8 +215,9 @@ fn after_number(
     number: Number,
     b: u8,
 ) -> Result<Token, AllocError>
-    ensures { IfOk result (λ t. state_of t (at + 1) (nested nesting.new)
-        ≡ step_atom at from (of_number number.negative number.value) (nested nesting.old) b (class b)) }
+    ensures ok { (later : List (List ℕ)) → GoesOn reserved later
+        → IfOk result (λ t. state_of t (at + 1) (nested later nesting.new) ≡ step_atom at from (of_number number.negative number.value) (nested later nesting.old) b (class b)) }
+    ensures names { OnOk result (nesting.new.names ≡ nesting.old.names) }
 {
     match class_of(b) {
         ByteClass::Start(FormStart::Digit) => match number.with_digit(b) {
@@ -229,8 +238,7 @@ fn after_number(
             fault: Fault::BadDot,
         }),
         _ => {
-            let value = number.to_i64();
-            nesting.put(Item::Integer { at: from, value })?;
+            nesting.put(number.form(from))?;
             begin(nesting, at, b)
         }
     }
@@ -238,7 +246,9 @@ fn after_number(
 
 /// A byte directly after a dot.
 fn after_dot(nesting: &mut Nesting, at: u64, b: u8) -> Result<Token, AllocError>
-    ensures { IfOk result (λ t. state_of t (at + 1) (nested nesting.new) ≡ step_dot at (nested nesting.old) b (class b)) }
+    ensures ok { (later : List (List ℕ)) → GoesOn reserved later
+        → IfOk result (λ t. state_of t (at + 1) (nested later nesting.new) ≡ step_dot at (nested later nesting.old) b (class b)) }
+    ensures names { nesting.new.names ≡ nesting.old.names }
 {
     match class_of(b) {
         ByteClass::Blank

@@ -56,7 +56,7 @@ fn run_length(text: &[u8]) -> usize
     text.iter().take_while(|byte| is_atom_byte(**byte)).count()
 }
 
-/// An atom byte's run without its sign.
+/// A run of atom bytes without its sign.
 fn unsigned(word: &[u8]) -> &[u8] {
     match word {
         [b'-', rest @ ..] => rest,
@@ -155,9 +155,9 @@ fn goes_on_by(text: &mut Vec<u8>, count: u8) -> Result<bool, AllocError> {
     Ok(false)
 }
 
-/// Some continuation makes it a source. Five bytes are enough after five: each of those opens at
-/// most one level, which one byte closes or gives a form, and one that opens none, as a semicolon
-/// or a dot, wants at most a line feed or a blank, and what it stands before an `a`.
+/// Some continuation makes it a source. Five bytes are enough after five: an open list wants a
+/// closing parenthesis, an open comment a line feed, a quote mark an `a`, and a dot a blank and an
+/// `a`, but a dot stands after an item, which wants nothing.
 fn can_go_on(text: &mut Vec<u8>) -> Result<bool, AllocError> {
     for count in 0..=5 {
         if goes_on_by(text, count)? {

@@ -58,6 +58,7 @@ pub enum Token {
 
 impl Token {
     /// The fault that reading stopped at, with its offset.
+    #[inline(always)]
     pub fn fault(&self) -> Option<(u64, Fault)>
         ensures { (o : ℕ) (k : Stack) → found_told result ≡ fault_of (state_of self.now o k) }
     {
