@@ -1,0 +1,41 @@
+//! What is refused of the forms of a source.
+
+ghost use Rattle.std.specs.Prelude.{◌≡◌, ℕ, IfOk};
+ghost use Rattle.ql_forms.specs.View.{forms_of};
+ghost use Rattle.ql_expand.specs.ExpandFault.{expand_fault};
+ghost use Rattle.ql_expand.specs.declared.expand.ExpandRefusal.TheVariants.{Bad, Memory};
+ghost use Rattle.std.specs.declared.alloc.AllocError.{AllocError};
+
+use crate::find_fault::find_fault;
+use ql_forms::form::Text;
+use std::alloc::AllocError;
+use thiserror::Error;
+
+/// Why the forms of a source expand to no program.
+#[derive(Clone, Copy, Debug, PartialEq, Eq, Error)]
+pub enum ExpandRefusal {
+    /// A form is at fault. The kinds: 9 a form that fits no shape or stands deeper than 400 levels,
+    /// 10 a `defun` or `defvar` that is no top form, 11 a reserved word in place of a name. `at` is
+    /// the least offset of a fault, and `kind` the lowest one there.
+    #[error("a form is at fault at byte {at} (kind {kind})")]
+    Bad { kind: u8, at: u64 },
+    /// There was no memory.
+    #[error("out of memory")]
+    Memory(AllocError),
+}
+
+/// Looks at all forms, and refuses them where one is at fault. It takes no memory, and goes down as
+/// many levels as a form may have, which are 400.
+pub fn check_forms(text: &Text) -> Result<(), ExpandRefusal>
+    ensures ok { IfOk result (λ done. expand_fault (forms_of text.now.names text.now.forms) ≡ None) }
+    ensures bad { (kind at : ℕ) → result ≡ Err (Bad kind at) → expand_fault (forms_of text.now.names text.now.forms) ≡ Some (at, kind) }
+    ensures needs_no_memory { (cause : AllocError) → result ≡ Err (Memory cause) → ⊥ }
+{
+    match find_fault(&text.names, text.forms.as_slice()) {
+        None => Ok(()),
+        Some(fault) => Err(ExpandRefusal::Bad {
+            kind: fault.kind.number(),
+            at: fault.at,
+        }),
+    }
+}

@@ -1,0 +1,4 @@
+pub mod Letters
+pub mod Counted
+pub mod Found
+pub mod Opened
