@@ -16,7 +16,8 @@ TOP = os.path.dirname(os.path.dirname(os.path.abspath(__file__)))
 PROGRAM = os.path.join(TOP, "bin", "ql")
 MIB = 1 << 20
 MOST_GROWTH = 2.3
-MOST_BYTES = 200
+# bytes of memory at the peak for each byte of the source
+MOST_BYTES = {"run": 200, "show": 200, "check": 400}
 RUNS = 5
 
 
@@ -76,7 +77,65 @@ def comment(size):
     return b";" + b"c" * (size - 8) + b"\n'(a)\n"
 
 
+def many(size, form):
+    """Forms of their numbers, as many as fit the size."""
+    out, length, n = [], 0, 0
+    while length < size:
+        out.append(form(n))
+        length += len(out[-1]) + 1
+        n += 1
+    return b"\n".join(out[:-1]) + b"\n"
+
+
+def small_functions(size):
+    """Functions of which each calls the next two, the last ones those before them."""
+    count = size // 68
+    return b"".join(
+        b"(defun function-%d (a b) (function-%d b (function-%d a 1)))\n" % (n, (n + 1) % count, (n + 2) % count)
+        for n in range(count))
+
+
+def one_function(size):
+    """One function of 16 parameters, and in its body lets of 16 bindings each, as many as fit the size."""
+    names = [b"name-%d" % n for n in range(16)]
+    bindings = b" ".join(b"(%s %s)" % (name, names[i - 1]) for i, name in enumerate(names))
+    head, let = b"(defun f (%s)\n" % b" ".join(names), b"(let (%s) %s)\n" % (bindings, names[7])
+    return head + let * ((size - len(head)) // len(let)) + b")\n"
+
+
+def globals_and_uses(size):
+    """Globals, and a sum of each with the one before it."""
+    return many(size, lambda n: b"(defvar global-%d (if (eq 0 %d) 1 (+ global-%d 1)))" % (n, n, max(0, n - 1)))
+
+
+def nested_lets(n):
+    """Lets 197 deep, each of which binds a name of its own."""
+    return b"".join(b"(let ((v%d %d)) " % (i, i) for i in range(197)) + b"v0" + b")" * 197
+
+
+def deepest_lets(n):
+    """Lets and sugar by turns, down to level 396 of 400."""
+    return b"(let (a) (and " * 79 + b"a" + b"))" * 79
+
+
+def wide_bindings(n):
+    return b"(let* (" + b" ".join(b"(v%d %s)" % (i, b"v%d" % (i - 1) if i else b"0") for i in range(196)) + b") v195)"
+
+
 SOURCES = [
+    ("check", "small functions", lambda half: small_functions(MIB >> half)),
+    ("check", "one function", lambda half: one_function(MIB >> half)),
+    ("check", "globals", lambda half: globals_and_uses(MIB >> half)),
+    ("check", "nested lets", lambda half: many(MIB >> half, nested_lets)),
+    ("check", "lets down to level 396", lambda half: many(MIB >> half, deepest_lets)),
+    ("check", "lists of 198", lambda half: many(MIB >> half, lambda n: b"(list" + b" 1" * 198 + b")")),
+    ("check", "conds of 198", lambda half: many(MIB >> half, lambda n: b"(cond" + b" (1 2)" * 198 + b")")),
+    ("check", "conds of 198 tests", lambda half: many(MIB >> half, lambda n: b"(cond" + b" (1)" * 198 + b")")),
+    ("check", "ors of 198", lambda half: many(MIB >> half, lambda n: b"(or" + b" 1" * 198 + b")")),
+    ("check", "ands of 198", lambda half: many(MIB >> half, lambda n: b"(and" + b" 1" * 198 + b")")),
+    ("check", "sums of 198", lambda half: many(MIB >> half, lambda n: b"(+" + b" 1" * 198 + b")")),
+    ("check", "let* of 196 bindings", lambda half: many(MIB >> half, wide_bindings)),
+    ("check", "quoted integers", lambda half: quoted(integers(), MIB >> half)),
     ("run", "13,000 spread prints", lambda half: spread_prints(MIB >> half, 13000 >> half)),
     ("run", "nested sums, 60,000 operands", lambda half: nested_sums(60000 >> half)),
     ("show", "integers", lambda half: quoted(integers(), MIB >> half)),
@@ -120,7 +179,7 @@ def main():
     subprocess.run([PROGRAM, "-", "-", "show"], stdin=subprocess.DEVNULL, check=True)
     built = os.path.join(TOP, "crates", "ql", "out", "ql")
     bad = []
-    print("%-4s %-30s %9s %9s %7s %8s %10s %10s" % ("", "source", "bytes", "seconds", "growth", "MB/s", "peak/byte", "clisp MB/s"))
+    print("%-5s %-30s %9s %9s %7s %8s %10s %10s" % ("", "source", "bytes", "seconds", "growth", "MB/s", "peak/byte", "clisp MB/s"))
     with tempfile.TemporaryDirectory() as folder:
         for command, name, make in SOURCES:
             times = []
@@ -138,10 +197,10 @@ def main():
                 other = "%.2f" % (len(text) / slow / 1e6)
                 if speed < 3 * len(text) / slow / 1e6:
                     bad.append("%s: less than three times as fast as clisp" % name)
-            print("%-4s %-30s %9d %9.4f %7.2f %8.1f %10.1f %10s" % (command, name, len(text), took, growth, speed, weight, other))
+            print("%-5s %-30s %9d %9.4f %7.2f %8.1f %10.1f %10s" % (command, name, len(text), took, growth, speed, weight, other))
             if growth > MOST_GROWTH:
                 bad.append("%s: grows %.2f-fold where the source doubles" % (name, growth))
-            if weight > MOST_BYTES and len(text) >= MIB // 4:
+            if weight > MOST_BYTES[command] and len(text) >= MIB // 4:
                 bad.append("%s: %.0f bytes a source byte" % (name, weight))
     print("%d cores" % os.cpu_count())
     for line in bad:

@@ -37,14 +37,17 @@ pub fn closed_end<'a>(words: &[&'a str]) -> Option<Unopened<'a>> {
 }
 
 fn closed_by<'a>(source: &'a str, journal: &'a str, command: &str) -> Option<Unopened<'a>> {
-    let runs = command == "run";
-    if (runs || command == "show") && source != STANDARD {
+    if is_among(command, &["check", "run", "show"]) && source != STANDARD {
         Some(Unopened::Source(source))
-    } else if runs && journal != STANDARD {
+    } else if command == "run" && journal != STANDARD {
         Some(Unopened::Journal(journal))
     } else {
         None
     }
+}
+
+fn is_among(word: &str, words: &[&str]) -> bool {
+    words.iter().any(|other| *other == word)
 }
 
 /// The words of the top call: those from the command on, or none where fewer than three are given.

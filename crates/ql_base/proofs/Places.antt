@@ -1,12 +1,12 @@
 -- The places of names, and how a set of keys in order finds them.
-use Rattle.std.proofs.Common.{◌≡◌, ℕ, zero, suc, ◌+◌, ◌<◌, ◌^◌, Bool, true, false, cond, List, [], ◌∷◌, ◌++◌, length, map, Option, Some, None, option_map, slice_get, ◌⊎◌, inl, inr, ⊎_elim, refl, sym, ap, subst, ◌∙◌, arith, length-append, position}
+use Rattle.std.proofs.Common.{◌≡◌, ℕ, zero, suc, ◌+◌, ◌<◌, ◌^◌, Bool, true, false, cond, List, [], ◌∷◌, ◌++◌, length, map, Option, Some, None, option_map, slice_get, is_some, if◌then◌else◌, ◌||◌, ◌⊎◌, inl, inr, ⊎_elim, refl, sym, ap, subst, ◌∙◌, arith, length-append, position}
 use Rattle.std.specs.List.{list_any, position_from}
 use Rattle.std.specs.Str.{bytes_eq}
 use Rattle.std.proofs.lemmas.List.{map-append}
 use Rattle.std.proofs.lemmas.Slice.Eq.{bytes_eq-Decides}
 use Rattle.std.proofs.lemmas.Iterator.Adapters.{position_from-zero}
 use Rattle.indexmap.specs.IndexSet.{insert_key}
-use Rattle.ql_base.specs.Names.{AreDistinct, HasNumber, IsTable, place_of, with_names, reserved}
+use Rattle.ql_base.specs.Names.{AreDistinct, HasNumber, IsTable, place_of, with_name, with_names, reserved}
 
 same_answer : (a b : Bool) → (a ≡ true → b ≡ true) → (b ≡ true → a ≡ true) → a ≡ b
 same_answer true true f g = refl
@@ -60,6 +60,18 @@ module _ {K : Type 0} (see : K → List ℕ) where
       let h = absent (bytes_eq (see k) text) (place_of (map see keys) text) e in
       rw (bytes_eq-flips text (see k), h.0) (any_is_place keys text h.1)
 
+  has_one : (b c : Bool) (p : Option ℕ) (n : ℕ) → cond b (Some 0) (option_map (λ j. j + 1) p) ≡ Some n → ((m : ℕ) → p ≡ Some m → c ≡ true) → b || c ≡ true
+  has_one true c p n e f = refl
+  has_one false c None n e f = absurd cc
+  has_one false c (Some m) n e f = f m refl
+
+  -- a text with a place equals some key
+  pub any_has_place : (keys : List K) (text : List ℕ) (n : ℕ) → place_of (map see keys) text ≡ Some n → list_any (λ k. bytes_eq text (see k)) keys ≡ true
+  any_has_place [] text n e = absurd cc
+  any_has_place (k ∷ keys) text n e =
+      rw (bytes_eq-flips text (see k))
+      (has_one (bytes_eq (see k) text) (list_any (λ k. bytes_eq text (see k)) keys) (place_of (map see keys) text) n e (λ m. any_has_place keys text m))
+
   -- a new key stands last
   pub added_last : (keys new : List K) (k : K) (text : List ℕ) → new ≡ insert_key (λ x y. bytes_eq (see x) (see y)) keys k → see k ≡ text → place_of (map see keys) text ≡ None → map see new ≡ map see keys ++ text ∷ []
   added_last keys new k text e s none =
@@ -102,11 +114,21 @@ distinct_with names text d none i other e =
     (λ (r : (i ≡ length names) × (other ≡ text)). rw (r.1, r.0) (place_of_last names text none))
     (old_or_new names text other i e)
 
+-- a name keeps its number once another stands last
+still_there : (names : List (List ℕ)) (text : List ℕ) (n : ℕ) (word : List ℕ) → slice_get names n ≡ Some word → slice_get (names ++ text ∷ []) n ≡ Some word
+still_there [] text n word e = absurd cc
+still_there (m ∷ names) text zero word e = e
+still_there (m ∷ names) text (suc n) word e = still_there names text n word e
+
 -- a table with one more name
 pub table_with : (names new : List (List ℕ)) (text : List ℕ) → IsTable names → place_of names text ≡ None → length names + 1 < 2 ^ 32 → new ≡ names ++ text ∷ [] → IsTable new
 table_with names new text t none small e =
     let len : length (names ++ text ∷ []) ≡ length names + 1 = length-append names (text ∷ []) in
-    subst IsTable (sym e) (record { small = rw len small; distinct = distinct_with names text t.distinct none })
+    subst IsTable (sym e) (record {
+      small = rw len small;
+      distinct = distinct_with names text t.distinct none;
+      begins = λ n word h. still_there names text n word (t.begins n word h);
+    })
 
 -- the number of a text that is there
 pub number_of_known : (names : List (List ℕ)) (text : List ℕ) (n : ℕ) → place_of names text ≡ Some n → HasNumber names text n names
@@ -123,3 +145,28 @@ number_of_added names new text none e =
 -- each reserved word comes once
 pub reserved_once : with_names [] reserved ≡ reserved
 reserved_once = refl
+
+distinct_by : (names : List (List ℕ)) (text : List ℕ) (p : Option ℕ) → place_of names text ≡ p → AreDistinct names → AreDistinct (with_name names text)
+distinct_by names text None e d = rw e (distinct_with names text d e)
+distinct_by names text (Some n) e d = rw e d
+
+distinct_all : (names texts : List (List ℕ)) → AreDistinct names → AreDistinct (with_names names texts)
+distinct_all names [] d = d
+distinct_all names (text ∷ texts) d = distinct_all (with_name names text) texts (distinct_by names text (place_of names text) refl d)
+
+pub reserved_distinct : AreDistinct reserved
+reserved_distinct = subst AreDistinct reserved_once (distinct_all [] reserved (λ i text e. absurd cc))
+
+pub reserved_table : IsTable reserved
+reserved_table = record { small = omega arith; distinct = reserved_distinct; begins = λ n word h. h }
+
+module _ {K : Type 0} (see : K → List ℕ) where
+  insert_by : (keys : List K) (k : K) (p : Option ℕ) → place_of (map see keys) (see k) ≡ p
+      → map see (insert_key (λ x y. bytes_eq (see x) (see y)) keys k) ≡ (if is_some p then map see keys else map see keys ++ see k ∷ [])
+  insert_by keys k None e = added_last see keys (insert_key (λ x y. bytes_eq (see x) (see y)) keys k) k (see k) refl refl e
+  insert_by keys k (Some n) e = ap (λ b. map see (cond b keys (keys ++ k ∷ []))) (any_has_place see keys (see k) n e)
+
+  -- the keys of a set, with one more text
+  pub insert_is : (keys : List K) (k : K) (text : List ℕ) → see k ≡ text
+      → map see (insert_key (λ x y. bytes_eq (see x) (see y)) keys k) ≡ with_name (map see keys) text
+  insert_is keys k text e = rw (← e) (insert_by keys k (place_of (map see keys) (see k)) refl)

@@ -1,7 +1,7 @@
 //! Names by number.
 
-ghost use Rattle.std.specs.Prelude.{◌≡◌, ◌<◌, ◌≤◌, ◌^◌, IfOk, OnErr, length, map, [], Some, slice_get};
-ghost use Rattle.ql_base.specs.Names.{AreDistinct, HasNumber, reserved, with_names};
+ghost use Rattle.std.specs.Prelude.{◌≡◌, ◌<◌, ◌≤◌, ◌^◌, IfOk, OnOk, OnErr, length, map, [], Some, slice_get};
+ghost use Rattle.ql_base.specs.Names.{AreDistinct, BeginsWithReserved, HasNumber, reserved, with_name, with_names};
 
 use indexmap::IndexSet;
 use std::alloc::{AllocError, Global};
@@ -86,26 +86,15 @@ impl Names {
         ensures reserved { IfOk result (λ names. names ≡ reserved) }
         ensures distinct { IfOk result (λ names. AreDistinct names) }
     {
-        Names::of_words(alloc, &RESERVED)
-    }
-
-    // Each of these words in turn.
-    fn of_words(alloc: Global, words: &[&[u8]]) -> Result<Names, AllocError>
-        ensures names { IfOk result (λ names. names ≡ with_names [] (map (λ word. word.now) words.now)) }
-        ensures distinct { IfOk result (λ names. AreDistinct names) }
-    {
-        let texts = IndexSet::with_capacity(alloc, words.len())?;
-        let mut names = Names { alloc, texts };
-        for word in words {
-            names.number(*word)?;
-        }
-        Ok(names)
+        let texts = texts_of(alloc, &RESERVED)?;
+        Ok(Names { alloc, texts })
     }
 
     /// How many names there are.
     pub fn len(&self) -> u32
         ensures count { result ≡ length self.now }
         ensures distinct { AreDistinct self.now }
+        ensures reserved { BeginsWithReserved self.now }
     {
         self.texts.len() as u32
     }
@@ -138,6 +127,25 @@ impl Names {
     {
         &self.texts[n as usize]
     }
+}
+
+// Each of these words in turn, once.
+fn texts_of(alloc: Global, words: &[&[u8]]) -> Result<IndexSet<Vec<u8>>, AllocError>
+    ensures { IfOk result (λ texts. map (λ text. text.items) texts.keys ≡ with_names [] (map (λ word. word.now) words.now)) }
+{
+    let mut texts = IndexSet::with_capacity(alloc, words.len())?;
+    for word in words {
+        insert_word(alloc, &mut texts, word)?;
+    }
+    Ok(texts)
+}
+
+// Adds this word last, unless it is there.
+fn insert_word(alloc: Global, texts: &mut IndexSet<Vec<u8>>, word: &[u8]) -> Result<(), AllocError>
+    ensures { OnOk result (map (λ text. text.items) texts.new.keys ≡ with_name (map (λ text. text.items) texts.old.keys) word.now) }
+{
+    texts.insert(Vec::from_slice(alloc, word)?)?;
+    Ok(())
 }
 
 #[cfg(test)]

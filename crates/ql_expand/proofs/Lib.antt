@@ -1,4 +1,12 @@
+pub mod Derive
 pub mod Examples
+pub mod Exists
 pub mod Faults
 pub mod Shapes
+pub mod Unique
 pub mod Weights
+pub mod Words
+pub mod Operations
+pub mod Loops
+pub mod Builds
+pub mod Tops

@@ -1,6 +1,9 @@
 pub mod Core
 pub mod Expands
 pub mod ExpandFault
+pub mod Expansion
 pub mod Fault
 pub mod Operator
 pub mod View
+pub mod Word
+pub mod Top

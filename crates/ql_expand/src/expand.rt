@@ -1,14 +1,18 @@
 //! What is refused of the forms of a source.
 
-ghost use Rattle.std.specs.Prelude.{◌≡◌, ℕ, IfOk};
+ghost use Rattle.std.specs.Prelude.{◌≡◌, ℕ, IfOk, length};
 ghost use Rattle.ql_forms.specs.View.{forms_of};
 ghost use Rattle.ql_expand.specs.ExpandFault.{expand_fault};
+ghost use Rattle.ql_expand.specs.Expands.{ExpandsTo};
+ghost use Rattle.ql_expand.specs.View.{program_of};
 ghost use Rattle.ql_expand.specs.declared.expand.ExpandRefusal.TheVariants.{Bad, Memory};
 ghost use Rattle.std.specs.declared.alloc.AllocError.{AllocError};
 
 use crate::find_fault::find_fault;
+use crate::program::Program;
+use crate::top::program_of_forms;
 use ql_forms::form::Text;
-use std::alloc::AllocError;
+use std::alloc::{AllocError, Global};
 use thiserror::Error;
 
 /// Why the forms of a source expand to no program.
@@ -37,5 +41,22 @@ pub fn check_forms(text: &Text) -> Result<(), ExpandRefusal>
             kind: fault.kind.number(),
             at: fault.at,
         }),
+    }
+}
+
+/// The program that the forms of a source expand to.
+pub fn expand(alloc: Global, text: &Text) -> Result<Program, ExpandRefusal>
+    // The forms expand to it, and none of them is at fault.
+    ensures ok { IfOk result (λ program. ExpandsTo (forms_of text.now.names text.now.forms) (program_of text.now.names program)) }
+    ensures no_fault { IfOk result (λ program. expand_fault (forms_of text.now.names text.now.forms) ≡ None) }
+    ensures names { IfOk result (λ program. program.names ≡ length text.now.names) }
+
+    // The first fault is the answer.
+    ensures bad { (kind at : ℕ) → result ≡ Err (Bad kind at) → expand_fault (forms_of text.now.names text.now.forms) ≡ Some (at, kind) }
+{
+    check_forms(text)?;
+    match program_of_forms(alloc, text) {
+        Ok(program) => Ok(program),
+        Err(cause) => Err(ExpandRefusal::Memory(cause)),
     }
 }

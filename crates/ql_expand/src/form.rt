@@ -1,9 +1,11 @@
 //! Forms, as the expander looks at them.
 
-ghost use Rattle.std.specs.Prelude.{◌≡◌, ℕ, List, MatchOption};
-ghost use Rattle.ql_forms.specs.View.{form_of, forms_of};
+ghost use Rattle.std.specs.Prelude.{◌≡◌, ℕ, List, MatchOption, false, None, Some};
+ghost use Rattle.ql_forms.specs.Form.{atom};
+ghost use Rattle.ql_forms.specs.View.{atom_of, form_of, forms_of};
 ghost use Rattle.ql_expand.specs.ExpandFault.{place_of, is_atom};
 ghost use Rattle.ql_expand.specs.Expands.{is_nil_form, items_of, proper_items, symbol_in};
+ghost use Rattle.ql_expand.specs.Expansion.{operation_in};
 ghost use Rattle.ql_expand.specs.View.{letters};
 
 use ql_base::names::Names;
@@ -34,6 +36,17 @@ pub fn is_atom(form: &Form) -> bool
     match form {
         Form::Atom { .. } => true,
         Form::List { .. } => false,
+    }
+}
+
+/// The atom that the form is, with its offset.
+pub fn atom_in(form: &Form) -> Option<(Offset, Atom)>
+    ensures { (names : List (List ℕ)) → MatchOption result (is_atom (form_of names form.now) ≡ false)
+        (λ found. form_of names form.now ≡ atom found.0.0 (atom_of names found.1)) }
+{
+    match form {
+        Form::Atom { at, atom } => Some((*at, *atom)),
+        Form::List { .. } => None,
     }
 }
 
@@ -103,4 +116,17 @@ pub fn items_of<'a>(names: &Names, form: &'a Form) -> Option<&'a [Form]>
     } else {
         proper_items(form)
     }
+}
+
+/// The operator of a proper list, and its parts.
+pub fn operation_in(form: &Form) -> Option<(Symbol, &[Form])>
+    ensures { (names : List (List ℕ)) → MatchOption result (operation_in (form_of names form.now) ≡ None)
+        (λ found. operation_in (form_of names form.now) ≡ Some ((found.0.at.0, letters names found.0.number), forms_of names found.1.now)) }
+{
+    let items = proper_items(form)?;
+    let [head, parts @ ..] = items else {
+        return None;
+    };
+    let symbol = symbol_in(head)?;
+    Some((symbol, parts))
 }

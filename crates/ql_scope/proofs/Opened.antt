@@ -1,5 +1,5 @@
 -- How many cores there are, and what a core is made of.
-use Rattle.std.proofs.Common.{◌≡◌, ℕ, ◌+◌, Bool, List, [], ◌∷◌, length, refl, arith}
+use Rattle.std.proofs.Common.{◌≡◌, ℕ, Bool, List, [], ◌∷◌, length, refl, arith}
 use Rattle.ql_base.specs.declared.numbers.Offset.{Offset}
 use Rattle.ql_expand.specs.View.{core_of, node_of, cores_of, bounds_of, bound_of, binder_of, binders_of, name_of, letters, node_step, bound_step, core_step}
 use Rattle.ql_expand.specs.Core as spec
@@ -10,9 +10,9 @@ use Rattle.ql_expand.specs.declared.program.Core.{Core}
 use Rattle.ql_expand.specs.declared.program.Bound.{Bound}
 use Rattle.ql_expand.specs.declared.program.Node.{fold-roll-Node}
 use Rattle.ql_expand.specs.declared.program.Node.TheFolds.{fold-roll-Core, fold-roll-Bound}
-use Rattle.ql_expand.specs.declared.program.Node.TheOpen.{Node-F, Core-F, Bound-F}
+use Rattle.ql_expand.specs.declared.program.Node.TheOpen.{Node-F}
 use Rattle.ql_expand.specs.declared.program.Node.TheViews as view
-use Rattle.ql_scope.specs.Scope.{count_of, place_of}
+use Rattle.ql_scope.specs.Scope.{count_of}
 
 pub count_all : (names : List (List ℕ)) (cs : List Core) → count_of (cores_of names cs) ≡ length cs
 count_all names [] = refl

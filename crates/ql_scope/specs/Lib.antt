@@ -3,3 +3,7 @@ pub mod Scope
 pub mod Tables
 pub mod Checking
 pub mod Scoped
+pub mod Stored
+pub mod Storing
+pub mod Table
+pub mod ScopedIn

@@ -1,5 +1,5 @@
 -- What the tables of a check hold.
-use Rattle.std.specs.Prelude.{◌≡◌, ℕ, ◌<◌, ◌==◌, List, Option, Some, None, length, slice_index_or, All, count_by}
+use Rattle.std.specs.Prelude.{◌≡◌, ℕ, ◌<◌, ◌==◌, List, Option, None, length, slice_index_or, All, count_by}
 use Rattle.ql_expand.specs.View.{letters}
 use Rattle.ql_scope.specs.Scope.{Head, parameter_count}
 

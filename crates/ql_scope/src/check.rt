@@ -4,13 +4,15 @@ ghost use Rattle.std.specs.Prelude.{◌≡◌, ℕ, IfOk, Some, Err};
 ghost use Rattle.ql_base.specs.Names.{AreDistinct};
 ghost use Rattle.ql_expand.specs.View.{program_of};
 ghost use Rattle.ql_scope.specs.Fault.{least};
-ghost use Rattle.ql_scope.specs.Scope.{program_faults, scope_fault, InScope};
+ghost use Rattle.ql_scope.specs.Scope.{program_faults, scope_fault};
+ghost use Rattle.ql_scope.specs.ScopedIn.{IsScopedIn};
 ghost use Rattle.ql_scope.specs.declared.check.ScopeRefusal.TheVariants.{Bad};
 
 use crate::checker::Checker;
 use crate::fault::Fault;
 use crate::lists::{check_functions, check_globals};
 use crate::scoped::Scoped;
+use crate::stored::stored_variables;
 use ql_base::names::Names;
 use ql_expand::program::Program;
 use std::alloc::{AllocError, Global};
@@ -34,7 +36,7 @@ pub enum ScopeRefusal {
 /// that the table lacks is answered as want of memory.
 pub fn check(alloc: Global, names: &Names, program: Program) -> Result<Scoped, ScopeRefusal>
     ensures ok { IfOk result (λ scoped. scoped.program ≡ program) }
-    ensures in_scope { IfOk result (λ scoped. InScope (program_of names.now program)) }
+    ensures in_scope { IfOk result (λ scoped. IsScopedIn names.now scoped) }
     ensures bad { (kind at : ℕ) → result ≡ Err (Bad kind at) → scope_fault (program_of names.now program) ≡ Some (at, kind) }
 {
     match first_fault(alloc, names, &program) {
@@ -43,7 +45,10 @@ pub fn check(alloc: Global, names: &Names, program: Program) -> Result<Scoped, S
             kind: fault.kind.number(),
             at: fault.at,
         }),
-        Ok(None) => Ok(Scoped { program }),
+        Ok(None) => match stored_variables(alloc, names, &program) {
+            Err(error) => Err(ScopeRefusal::Memory(error)),
+            Ok(stored) => Ok(Scoped { program, stored }),
+        },
     }
 }
 

@@ -2,6 +2,7 @@
 //! calls and cleanups of a program must keep to.
 #![tactic(auto)]
 
+mod binder_stack;
 pub mod check;
 mod checker;
 pub mod fault;
@@ -9,4 +10,9 @@ mod functions;
 mod lists;
 mod name_stack;
 pub mod scoped;
+#[cfg(test)]
+mod slow;
+mod stored;
+#[cfg(test)]
+mod tests;
 mod walk;

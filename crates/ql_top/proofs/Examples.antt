@@ -1,9 +1,12 @@
--- What is told of the code of small programs, computed.
-use Rattle.std.proofs.Common.{◌≡◌, [], ◌∷◌, Some, None, refl}
+-- What is told of the code of small programs, and which forms can't be run yet, computed.
+use Rattle.std.proofs.Common.{◌≡◌, ℕ, [], ◌∷◌, Some, None, refl}
 use Rattle.std.specs.Prelude.{pos, codes, replicate}
 use Rattle.std.specs.Fmt.{digits}
 use Rattle.ql_base.specs.Limits.{usual}
 use Rattle.ql_base.specs.declared.fault.RunFault.TheVariants.{Overflow}
+use Rattle.ql_forms.specs.Form.{integer, nil, atom}
+use Rattle.ql_expand.specs.Core as expanded
+use Rattle.ql_expand.specs.Core.{core, no_cores, and_core, primitive, conditional, function, program}
 use Rattle.ql_meaning.specs.Core.{Core, constant, sum, print}
 use Rattle.ql_meaning.specs.Meaning.{program_told}
 use Rattle.ql_meaning.specs.World.{pid}
@@ -11,6 +14,7 @@ use Rattle.ql_meaning.specs.declared.world.Event.TheVariants.{Turn, Exit, EndOk,
 use Rattle.ql_meaning.specs.declared.world.Stop.TheVariants.{Done, Fault, Deadlock}
 use Rattle.ql_top.specs.Code.{instruction, code_of_program}
 use Rattle.ql_top.specs.Machine.{code_told}
+use Rattle.ql_top.specs.Unbuilt.{unbuilt_places, first_unbuilt}
 use Rattle.ql_top.specs.declared.code.Op.TheVariants.{Lit, Sum, Print, Drop, End}
 
 -- (print (+ 1 2))
@@ -60,3 +64,24 @@ rests_on_a_short_stack = refl
 rests_outside : code_told (instruction (Lit (pos 1)) 0 ∷ []) usual (replicate 1 1)
     ≡ Some (record { output = []; journal = Turn (pid 1) 1 ∷ (Stopped Deadlock ∷ []); stop = Deadlock })
 rests_outside = refl
+
+-- what can't be run yet
+abbrev integer_at : ℕ → ℕ → expanded.Core
+integer_at at n = core at (expanded.constant (atom at (integer (pos n))))
+
+abbrev nil_at : ℕ → expanded.Core
+nil_at at = core at (expanded.constant (atom at nil))
+
+-- (print (+ 1 2))
+all_can_run : first_unbuilt (program [] [] (and_core (core 0 (expanded.print (core 7 (primitive (codes "+") (and_core (integer_at 10 1)
+    (and_core (integer_at 12 2) no_cores)))))) no_cores)) ≡ None
+all_can_run = refl
+
+-- (print (if 1 nil 3))
+inner_forms_count : unbuilt_places (program [] [] (and_core (core 0 (expanded.print (core 7 (conditional (integer_at 11 1) (nil_at 13) (integer_at 17 3))))) no_cores))
+    ≡ 7 ∷ (13 ∷ [])
+inner_forms_count = refl
+
+-- (print nil)(defun f () nil)
+the_least_is_first : first_unbuilt (program (function 11 (codes "f") 18 [] (nil_at 23) ∷ []) [] (and_core (core 0 (expanded.print (nil_at 7))) no_cores)) ≡ Some 7
+the_least_is_first = refl

@@ -1,7 +1,5 @@
 -- The code of a program.
-use Rattle.std.specs.Prelude.{◌≡◌, ℕ, Bool, false, List, [], ◌∷◌, ◌++◌, Option, Some, None}
-use Rattle.std.specs.Str.{bytes_eq}
-use Rattle.ql_forms.specs.Form.{symbol, Form, atom, list}
+use Rattle.std.specs.Prelude.{◌≡◌, ℕ, List, [], ◌∷◌, ◌++◌, Option, Some, None}
 use Rattle.ql_meaning.specs.Core.{Core, constant, sum, print}
 use Rattle.ql_top.specs.declared.code.Op.{Op}
 use Rattle.ql_top.specs.declared.code.Op.TheVariants.{Lit, Sum, Print, Drop, End}
@@ -27,22 +25,12 @@ abbrev pub code_of_program : List Core → List Instruction
 code_of_program [] = instruction End 0 ∷ []
 code_of_program (c ∷ cs) = code_of c ++ (instruction Drop (place_of c) ∷ code_of_program cs)
 
--- the form is the symbol with these letters
-abbrev pub is_word : List ℕ → Form → Bool
-is_word word (atom at (symbol letters)) = bytes_eq letters word
-is_word word form = false
-
--- the offset of the form's first byte
-abbrev pub offset_in : Form → ℕ
-offset_in (atom at a) = at
-offset_in (list at fs tail) = at
-
--- there is a core, and its code comes after what was there
+-- Where a form can be run, its code comes after what was there.
 abbrev pub AddsCode : Option Core → List Instruction → List Instruction → Type 0
-AddsCode None old new = Prim.⊥
+AddsCode None old new = Prim.Unit {0}
 AddsCode (Some core) old new = new ≡ old ++ code_of core
 
--- there is a program, and its code but for the end comes after what was there
+-- Where all forms can be run, the code of the program that they make, but for the end, comes after what was there.
 abbrev pub AddsForms : Option (List Core) → List Instruction → List Instruction → Type 0
-AddsForms None old new = Prim.⊥
+AddsForms None old new = Prim.Unit {0}
 AddsForms (Some program) old new = new ++ instruction End 0 ∷ [] ≡ old ++ code_of_program program

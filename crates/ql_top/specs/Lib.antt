@@ -8,4 +8,5 @@ pub mod Reading
 pub mod Status
 pub mod Texts
 pub mod Top
+pub mod Unbuilt
 pub mod Words

@@ -33,4 +33,13 @@ refusal_name kind =
     else (if kind == 6 then codes "toodeep"
     else (if kind == 7 then codes "toolong"
     else (if kind == 8 then codes "unfinished"
-    else codes "badshape")))))))
+    else (if kind == 10 then codes "badtop"
+    else (if kind == 11 then codes "reservedname"
+    else (if kind == 12 then codes "unbound"
+    else (if kind == 13 then codes "nofunction"
+    else (if kind == 14 then codes "twice"
+    else (if kind == 15 then codes "wrongcount"
+    else (if kind == 16 then codes "badcleanup"
+    else (if kind == 17 then codes "shadow"
+    else (if kind == 18 then codes "toomany"
+    else codes "badshape"))))))))))))))))

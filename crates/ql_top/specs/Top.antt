@@ -1,10 +1,14 @@
 -- What a call of the top answers, for a source that tells its bytes.
-use Rattle.std.specs.Prelude.{◌≡◌, ◌⊎◌, ◌≤◌, ◌+◌, ◌++◌, ℕ, List, [], length, Option, Some, None}
+use Rattle.std.specs.Prelude.{◌≡◌, ◌⊎◌, ◌≤◌, ◌+◌, ◌++◌, ℕ, List, [], length, Option, Some, None, codes}
 use Rattle.ql_base.specs.Limits.{usual}
 use Rattle.ql_base.specs.Outside.{HasRisen, Appends, AppendsFront}
 use Rattle.ql_forms.specs.Form.{Forms}
 use Rattle.ql_forms.specs.Spells.{Spells}
 use Rattle.ql_forms.specs.FormText.{forms_text}
+use Rattle.ql_expand.specs.Core.{Program}
+use Rattle.ql_expand.specs.ExpandFault.{expand_fault}
+use Rattle.ql_expand.specs.Expands.{ExpandsTo}
+use Rattle.ql_scope.specs.Scope.{InScope, scope_fault}
 use Rattle.ql_meaning.specs.Core.{Core, program_of}
 use Rattle.ql_meaning.specs.Meaning.{program_told}
 use Rattle.ql_meaning.specs.Run.{Story}
@@ -15,8 +19,9 @@ use Rattle.ql_top.specs.ErrorLine.{error_line}
 use Rattle.ql_top.specs.JournalText.{journal_text}
 use Rattle.ql_top.specs.Reading.{IsCutShort}
 use Rattle.ql_top.specs.Status.{status_of}
+use Rattle.ql_top.specs.Unbuilt.{first_unbuilt}
 use Rattle.ql_top.specs.declared.words.Command.{Command}
-use Rattle.ql_top.specs.declared.words.Command.TheVariants.{Run, Show}
+use Rattle.ql_top.specs.declared.words.Command.TheVariants.{Run, Show, Check}
 use Rattle.ql_top.specs.declared.status.Status.{Status}
 use Rattle.ql_top.specs.declared.status.Status.TheVariants.{Done, Refused, Words, NoMemory, ReadFault, WriteFault}
 
@@ -25,16 +30,30 @@ pub record IsText (bytes : List ℕ) (forms : Forms) : Type 0 where
   pub spells : Spells bytes forms
   pub no_fault : (kind at : ℕ) → TextFault bytes kind at → Prim.⊥
 
--- The refusals of a command, by kind and offset: a fault of the text, or forms that can't be run, which is kind 9 at 0.
+-- the bytes are the source of this program: their forms have no fault and expand to it
+pub record IsSource (bytes : List ℕ) (program : Program) : Type 0 where
+  pub forms : Forms
+  pub is_text : IsText bytes forms
+  pub no_fault : expand_fault forms ≡ None
+  pub expands : ExpandsTo forms program
+
+-- The refusals of a command, by kind and offset. The first fault of the text comes before any fault of the forms, and that
+-- before any of the names. To run, all forms of the program must be of kinds that can be run: the first that isn't is kind 9.
 pub data Refusal : Command → List ℕ → ℕ → ℕ → Type 0 where
   of_text : {command : Command} {bytes : List ℕ} {kind at : ℕ} → TextFault bytes kind at → Refusal command bytes kind at
-  of_forms : {bytes : List ℕ} {forms : Forms} → IsText bytes forms → program_of forms ≡ None → Refusal Run bytes 9 0
+  of_forms : {command : Command} {bytes : List ℕ} {kind at : ℕ} {forms : Forms} → IsText bytes forms → expand_fault forms ≡ Some (at, kind)
+      → Refusal command bytes kind at
+  of_scope : {command : Command} {bytes : List ℕ} {kind at : ℕ} {program : Program} → IsSource bytes program → scope_fault program ≡ Some (at, kind)
+      → Refusal command bytes kind at
+  of_kind : {bytes : List ℕ} {at : ℕ} {program : Program} → IsSource bytes program → InScope program → first_unbuilt program ≡ Some at
+      → Refusal Run bytes 9 at
 
 -- nothing refuses the bytes
 abbrev pub IsAccepted : Command → List ℕ → Type 0
 IsAccepted command bytes = (kind at : ℕ) → Refusal command bytes kind at → Prim.⊥
 
--- This refuses the bytes, and nothing else does. A fault of the text at a byte is found at most 4,096 bytes later.
+-- This refuses the bytes, and nothing else does. A fault of the text at a byte is found at most 4,096 bytes later; for what
+-- is no fault of the text the whole source was read.
 pub record IsRefused (command : Command) (bytes : List ℕ) (left : Option (List ℕ)) (kind at : ℕ) : Type 0 where
   pub refusal : Refusal command bytes kind at
   pub only : (k n : ℕ) → Refusal command bytes k n → (k ≡ kind) × (n ≡ at)
@@ -43,12 +62,14 @@ pub record IsRefused (command : Command) (bytes : List ℕ) (left : Option (List
   pub parts : bytes ≡ taken ++ rest
   pub is_left : left ≡ Some rest
   pub near : kind ≤ 8 → length taken ≤ at + 4096
+  pub whole : 9 ≤ kind → rest ≡ []
 
--- the bytes spell this program
+-- the bytes are the source of a program in scope, all of which can be run, and this is its core
 pub record IsProgram (bytes : List ℕ) (program : List Core) : Type 0 where
-  pub forms : Forms
-  pub is_text : IsText bytes forms
-  pub has_core : program_of forms ≡ Some program
+  pub source : Program
+  pub is_source : IsSource bytes source
+  pub in_scope : InScope source
+  pub has_core : program_of source ≡ Some program
 
 -- This stop, this output and this text of a journal are what is told of the program's run along the schedule that the
 -- journal itself spells.
@@ -115,6 +136,28 @@ pub record IsShown (bytes : List ℕ) (left : Option (List ℕ)) (out out' : Opt
   pub none_left : left ≡ Some []
   pub written : Appends (forms_text forms) out out'
 
+-- the text that says that a source is a program in scope
+abbrev pub approval : List ℕ
+approval = codes "ok\n"
+
+-- the whole source was read, its program is in scope, and that was written
+pub record IsChecked (bytes : List ℕ) (left : Option (List ℕ)) (out out' : Option (List ℕ)) : Type 0 where
+  pub program : Program
+  pub is_source : IsSource bytes program
+  pub in_scope : InScope program
+  pub accepted : IsAccepted Check bytes
+  pub none_left : left ≡ Some []
+  pub written : Appends approval out out'
+
+-- the whole source was read, its program is in scope, and that was cut off while it was written
+pub record IsCutCheck (bytes : List ℕ) (left out out' : Option (List ℕ)) : Type 0 where
+  pub program : Program
+  pub is_source : IsSource bytes program
+  pub in_scope : InScope program
+  pub accepted : IsAccepted Check bytes
+  pub none_left : left ≡ Some []
+  pub written : AppendsFront approval out out'
+
 -- a run's answer
 abbrev pub AnswersRun : Status → List ℕ → (left out out' journal journal' : Option (List ℕ)) → Type 0
 AnswersRun (Refused kind at) bytes left out out' journal journal' = IsRefused Run bytes left kind at
@@ -133,9 +176,19 @@ AnswersShow ReadFault bytes left out out' = IsCutShort bytes left
 AnswersShow WriteFault bytes left out out' = IsCutShow bytes left out out'
 AnswersShow status bytes left out out' = Prim.⊥
 
+-- a check's answer
+abbrev pub AnswersCheck : Status → List ℕ → (left out out' : Option (List ℕ)) → Type 0
+AnswersCheck Done bytes left out out' = IsChecked bytes left out out'
+AnswersCheck (Refused kind at) bytes left out out' = IsRefused Check bytes left kind at
+AnswersCheck NoMemory bytes left out out' = Prim.Unit {0}
+AnswersCheck ReadFault bytes left out out' = IsCutShort bytes left
+AnswersCheck WriteFault bytes left out out' = IsCutCheck bytes left out out'
+AnswersCheck status bytes left out out' = Prim.⊥
+
 abbrev pub Answers : Command → Status → List ℕ → (left out out' journal journal' : Option (List ℕ)) → Type 0
 Answers Run status bytes left out out' journal journal' = AnswersRun status bytes left out out' journal journal'
 Answers Show status bytes left out out' journal journal' = AnswersShow status bytes left out out'
+Answers Check status bytes left out out' journal journal' = AnswersCheck status bytes left out out'
 
 -- The line of a status was written, or a front of it before a call failed.
 abbrev pub SaysStatus : Status → (err err' : Option (List ℕ)) → (faults faults' : ℕ) → Type 0

@@ -3,12 +3,15 @@ use Rattle.std.specs.Prelude.{ℕ, if◌then◌else◌, List, [], ◌∷◌, map
 use Rattle.std.specs.Borrow.{Bor}
 use Rattle.std.specs.Str.{bytes_eq}
 use Rattle.ql_top.specs.declared.words.Command.{Command}
-use Rattle.ql_top.specs.declared.words.Command.TheVariants.{Run, Show}
+use Rattle.ql_top.specs.declared.words.Command.TheVariants.{Run, Show, Check}
 
 abbrev pub texts_of : List (Bor (List ℕ)) → List (List ℕ)
 texts_of words = map (λ w. w.now) words
 
--- the one word `run` or `show`, and no other list of words
+-- the one word `run`, `show` or `check`, and no other list of words
 abbrev pub asked : List (List ℕ) → Option Command
-asked (word ∷ []) = if bytes_eq word (codes "run") then Some Run else (if bytes_eq word (codes "show") then Some Show else None)
+asked (word ∷ []) =
+    if bytes_eq word (codes "run") then Some Run
+    else (if bytes_eq word (codes "show") then Some Show
+    else (if bytes_eq word (codes "check") then Some Check else None))
 asked words = None

@@ -1,44 +1,72 @@
-//! The compiler: from the forms of a source to code.
+//! The compiler: from a program to code.
 
-ghost use Rattle.std.specs.Prelude.{◌≡◌, ℕ, List, ◌∷◌, [], ◌++◌, IfOk, OnOk, slice_index_or};
-ghost use Rattle.std.specs.Str.{bytes_eq};
+ghost use Rattle.std.specs.Prelude.{◌≡◌, ℕ, List, ◌∷◌, [], ◌++◌, IfOk, OnOk, Some, Err};
 ghost use Rattle.ql_base.specs.declared.limits.Limits.{Limits};
-ghost use Rattle.ql_forms.specs.Form.{list, proper};
-ghost use Rattle.ql_forms.specs.View.{form_of, forms_of};
-ghost use Rattle.ql_meaning.specs.Core.{Core, core_of, program_of};
+ghost use Rattle.ql_forms.specs.View.{form_of};
+ghost use Rattle.ql_expand.specs.Core.{core, primitive};
+ghost use Rattle.ql_expand.specs.View as view;
+ghost use Rattle.ql_expand.specs.View.{letters};
+ghost use Rattle.ql_meaning.specs.Core.{Core as Runnable, constant_of, core_of, cores_of, program_of};
 ghost use Rattle.ql_meaning.specs.Meaning.{program_told};
-ghost use Rattle.ql_top.specs.Code.{instruction, code_of_program, AddsCode, AddsForms, is_word, offset_in};
+ghost use Rattle.ql_top.specs.Code.{instruction, code_of_program, AddsCode, AddsForms};
 ghost use Rattle.ql_top.specs.Machine.{code_told};
+ghost use Rattle.ql_top.specs.Unbuilt.{first_unbuilt};
+ghost use Rattle.ql_top.specs.declared.compile.CompileRefusal.TheVariants.{Unbuilt};
 
 use crate::code::{Instruction, Op};
+use crate::unbuilt::{first_unbuilt, is_plus, none_where_all_can_run};
 use ql_base::names::Names;
 use ql_base::numbers::Offset;
-use ql_forms::form::{Atom, Form, Text};
+use ql_expand::program::{Core, Node, Program};
+use ql_forms::form::{Atom, Form};
 use std::alloc::{AllocError, Global};
 use thiserror::Error;
 
 /// Why there is no code.
-#[derive(Debug, Drop, Error)]
+#[derive(Clone, Copy, Debug, PartialEq, Eq, Error)]
 pub enum CompileRefusal {
-    /// A form of the source has no core.
-    #[error("a form is outside the language")]
-    Outside,
+    /// A form of the program can't be run yet: `at` is the least offset of such a form.
+    #[error("the form at byte {at} can't be run yet")]
+    Unbuilt { at: u64 },
     /// Memory ran out.
-    #[error(transparent)]
-    Memory(#[from(alloc)] AllocError),
+    #[error("out of memory")]
+    Memory(AllocError),
 }
 
-/// The code of the program that these forms make.
-pub fn compile(alloc: Global, text: &Text) -> Result<Vec<Instruction>, CompileRefusal>
-    ensures ok { IfOk result (λ code. (program : List Core) × (program_of (forms_of text.now.names text.now.forms) ≡ Some program) × (code.items ≡ code_of_program program)) }
-    ensures outside { result ≡ Err CompileRefusal.Outside → program_of (forms_of text.now.names text.now.forms) ≡ None }
+/// The code of a program, whose names are in this table.
+pub fn compile(
+    alloc: Global,
+    names: &Names,
+    program: &Program,
+) -> Result<Vec<Instruction>, CompileRefusal>
+    ensures ok { IfOk result (λ code. (meant : List Runnable) × (program_of (view.program_of names.now program.now) ≡ Some meant) × (code.items ≡ code_of_program meant)) }
+    ensures unbuilt { (at : ℕ) → result ≡ Err (Unbuilt at) → first_unbuilt (view.program_of names.now program.now) ≡ Some at }
 
     // The code means what the program means, along every schedule and under all limits.
-    ensures simulation { IfOk result (λ code. (program : List Core) → program_of (forms_of text.now.names text.now.forms) ≡ Some program
-        → (limits : Limits) (schedule : List ℕ) → code_told code.items limits schedule ≡ program_told program limits schedule) }
+    ensures simulation { IfOk result (λ code. (meant : List Runnable) → program_of (view.program_of names.now program.now) ≡ Some meant
+        → (limits : Limits) (schedule : List ℕ) → code_told code.items limits schedule ≡ program_told meant limits schedule) }
+{
+    // A fact that the clauses rest on; the call does nothing.
+    none_where_all_can_run();
+    if let Some(at) = first_unbuilt(names, program) {
+        return Err(CompileRefusal::Unbuilt { at });
+    }
+    match code_of_forms(alloc, names, program.body.as_slice()) {
+        Ok(code) => Ok(code),
+        Err(error) => Err(CompileRefusal::Memory(error)),
+    }
+}
+
+/// The code of top forms.
+fn code_of_forms(
+    alloc: Global,
+    names: &Names,
+    forms: &[Core],
+) -> Result<Vec<Instruction>, AllocError>
+    ensures { IfOk result (λ code. (meant : List Runnable) → cores_of (view.cores_of names.now forms.now) ≡ Some meant → code.items ≡ code_of_program meant) }
 {
     let mut code = Vec::new(alloc);
-    compile_forms(&mut code, &text.names, text.forms.as_slice())?;
+    compile_forms(&mut code, names, forms)?;
     put(&mut code, Op::End, Offset(0))?;
     Ok(code)
 }
@@ -47,108 +75,77 @@ pub fn compile(alloc: Global, text: &Text) -> Result<Vec<Instruction>, CompileRe
 fn compile_forms(
     code: &mut Vec<Instruction>,
     names: &Names,
-    forms: &[Form],
-) -> Result<(), CompileRefusal>
-    ensures ok { OnOk result (AddsForms (program_of (forms_of names.now forms.now)) code.old.items code.new.items) }
-    ensures outside { result ≡ Err CompileRefusal.Outside → program_of (forms_of names.now forms.now) ≡ None }
+    forms: &[Core],
+) -> Result<(), AllocError>
+    ensures { OnOk result (AddsForms (cores_of (view.cores_of names.now forms.now)) code.old.items code.new.items) }
 {
     for form in forms {
         compile_form(code, names, form)?;
-        put(code, Op::Drop, offset_of(form))?;
+        put(code, Op::Drop, form.at)?;
     }
     Ok(())
 }
 
-/// Appends the code of a form.
+/// Appends the code of a form, if it can be run.
 #[cycle(compile_form)]
-fn compile_form(
-    code: &mut Vec<Instruction>,
-    names: &Names,
-    form: &Form,
-) -> Result<(), CompileRefusal>
-    ensures ok { OnOk result (AddsCode (core_of (form_of names.now form.now)) code.old.items code.new.items) }
-    ensures outside { result ≡ Err CompileRefusal.Outside → core_of (form_of names.now form.now) ≡ None }
+fn compile_form(code: &mut Vec<Instruction>, names: &Names, form: &Core) -> Result<(), AllocError>
+    ensures { OnOk result (AddsCode (core_of (view.core_of names.now form.now)) code.old.items code.new.items) }
 {
-    match form {
-        Form::Atom {
-            at,
-            atom: Atom::Int(n),
-        } => put(code, Op::Lit(*n), *at),
-        Form::List {
-            at,
-            items,
-            tail: None,
-        } => compile_list(code, names, *at, items.as_slice()),
-        _ => Err(CompileRefusal::Outside),
+    match &form.node {
+        Node::Const(constant) => compile_constant(code, form.at, constant),
+        Node::Prim { op, args } => compile_primitive(code, names, form.at, *op, args.as_slice()),
+        Node::Print(printed) => {
+            compile_form(code, names, printed.get())?;
+            put(code, Op::Print, form.at)
+        }
+        _ => Ok(()),
     }
 }
 
-/// Appends the code of a proper list with these items.
+/// Appends the code of a constant, if it is an integer.
+fn compile_constant(
+    code: &mut Vec<Instruction>,
+    at: Offset,
+    constant: &Form,
+) -> Result<(), AllocError>
+    ensures { (names : List (List ℕ)) → OnOk result (AddsCode (constant_of at.0 (form_of names constant.now)) code.old.items code.new.items) }
+{
+    match constant {
+        Form::Atom {
+            atom: Atom::Int(n),
+            ..
+        } => put(code, Op::Lit(*n), at),
+        _ => Ok(()),
+    }
+}
+
+/// Appends the code of a primitive, if it is `+` with two operands.
 #[cycle(compile_form)]
-fn compile_list(
+fn compile_primitive(
     code: &mut Vec<Instruction>,
     names: &Names,
     at: Offset,
-    items: &[Form],
-) -> Result<(), CompileRefusal>
-    ensures ok { OnOk result (AddsCode (core_of (list at.0 (forms_of names.now items.now) proper)) code.old.items code.new.items) }
-    ensures outside { result ≡ Err CompileRefusal.Outside → core_of (list at.0 (forms_of names.now items.now) proper) ≡ None }
+    operator: u32,
+    operands: &[Core],
+) -> Result<(), AllocError>
+    ensures { OnOk result (AddsCode (core_of (core at.0 (primitive (letters names.now operator) (view.cores_of names.now operands.now)))) code.old.items code.new.items) }
 {
-    match items {
-        [head, first, second] if is_word(names, head, b"+") => {
+    match operands {
+        [first, second] if is_plus(names, operator) => {
             compile_form(code, names, first)?;
             compile_form(code, names, second)?;
             put(code, Op::Sum, at)
         }
-        [head, operand] if is_word(names, head, b"print") => {
-            compile_form(code, names, operand)?;
-            put(code, Op::Print, at)
-        }
-        _ => Err(CompileRefusal::Outside),
-    }
-}
-
-/// Whether the form is the symbol with this name.
-fn is_word(names: &Names, form: &Form, word: &[u8]) -> bool
-    ensures { result ≡ is_word word.now (form_of names.now form.now) }
-{
-    match form {
-        Form::Atom {
-            atom: Atom::Sym(n),
-            ..
-        } => has_letters(names, *n, word),
-        _ => false,
-    }
-}
-
-/// Whether the name with this number is the word. A number outside stands for no letters.
-fn has_letters(names: &Names, n: u32, word: &[u8]) -> bool
-    ensures { result ≡ bytes_eq (slice_index_or names.now n []) word.now }
-{
-    if n < names.len() {
-        names.text(n) == word
-    } else {
-        word.is_empty()
-    }
-}
-
-/// The offset of the form's first byte.
-fn offset_of(form: &Form) -> Offset
-    ensures { (names : List (List ℕ)) → result.0 ≡ offset_in (form_of names form.now) }
-{
-    match form {
-        Form::Atom { at, .. } => *at,
-        Form::List { at, .. } => *at,
+        _ => Ok(()),
     }
 }
 
 /// Appends an instruction.
-fn put(code: &mut Vec<Instruction>, op: Op, at: Offset) -> Result<(), CompileRefusal>
-    ensures ok { OnOk result (code.new.items ≡ code.old.items ++ instruction op at.0 ∷ []) }
-    ensures not_outside { result ≡ Err CompileRefusal.Outside → ⊥ }
+fn put(code: &mut Vec<Instruction>, op: Op, at: Offset) -> Result<(), AllocError>
+    ensures { OnOk result (code.new.items ≡ code.old.items ++ instruction op at.0 ∷ []) }
 {
-    code.push(Instruction { op, at })
-        .map_err(|_| CompileRefusal::Memory(AllocError))
+    code.push(Instruction { op, at })?;
+    Ok(())
 }
 
 #[cfg(test)]

@@ -3,6 +3,7 @@
 //! The compiler, the machine over its code and the journal's text are parts of this crate.
 #![tactic(auto)]
 
+pub mod accept;
 pub mod code;
 pub mod compile;
 pub mod error_line;
@@ -13,5 +14,6 @@ pub mod show;
 pub mod status;
 pub mod texts;
 pub mod top;
+pub mod unbuilt;
 pub mod words;
 pub mod writing;

@@ -48,6 +48,15 @@ pub fn refusal_name(kind: u8) -> &'static [u8]
         6 => b"toodeep",
         7 => b"toolong",
         8 => b"unfinished",
+        10 => b"badtop",
+        11 => b"reservedname",
+        12 => b"unbound",
+        13 => b"nofunction",
+        14 => b"twice",
+        15 => b"wrongcount",
+        16 => b"badcleanup",
+        17 => b"shadow",
+        18 => b"toomany",
         _ => b"badshape",
     }
 }

@@ -10,6 +10,8 @@ pub enum Command {
     Run,
     /// Writes each form of the source in its one spelling, on a line of its own.
     Show,
+    /// Writes `ok` where the source is a program whose names are in scope.
+    Check,
 }
 
 /// The command that the words ask for, if they ask for one.
@@ -29,6 +31,8 @@ fn command_of(word: &str) -> Option<Command>
         Some(Command::Run)
     } else if word == "show" {
         Some(Command::Show)
+    } else if word == "check" {
+        Some(Command::Check)
     } else {
         None
     }

@@ -7,49 +7,67 @@ use ql_base::fault::RunFault;
 use ql_base::limits::{LimitKind, Limits};
 use ql_base::names::Names;
 use ql_base::numbers::{CatchId, Offset, Pid};
-use ql_forms::form::{Atom, Form, Text};
+use ql_expand::program::{Binder, Core, Function, Node, Program};
+use ql_forms::form::{Atom, Form};
 use ql_meaning::world::{Event, Stop};
-use sqlite_items::Items;
+use sqlite_items::{Boxed, Items};
 use std::alloc::{AllocError, Global};
 
-fn atom(atom: Atom) -> Form {
-    Form::Atom {
-        at: Offset(0),
-        atom,
+// The numbers of reserved words.
+const NIL: u32 = 0;
+
+const SUM: u32 = 29;
+
+const DIFFERENCE: u32 = 30;
+
+fn core(at: u64, node: Node) -> Core {
+    Core {
+        at: Offset(at),
+        node,
     }
 }
 
-/// `(print (+ a b))`, with the sum at byte 7.
-fn sum_printed(alloc: Global, a: i64, b: i64) -> Result<Text, AllocError> {
-    let mut sum = Items::new(alloc);
-    sum.push(atom(Atom::Sym(29)))?;
-    sum.push(atom(Atom::Int(a)))?;
-    sum.push(atom(Atom::Int(b)))?;
-    let mut print = Items::new(alloc);
-    print.push(atom(Atom::Sym(18)))?;
-    print.push(Form::List {
-        at: Offset(7),
-        items: sum,
-        tail: None,
-    })?;
-    let mut forms = Items::new(alloc);
-    forms.push(Form::List {
-        at: Offset(0),
-        items: print,
-        tail: None,
-    })?;
-    Ok(Text {
-        forms,
-        names: Names::new(alloc)?,
+fn constant(at: u64, atom: Atom) -> Core {
+    let at = Offset(at);
+    Core {
+        at,
+        node: Node::Const(Form::Atom { at, atom }),
+    }
+}
+
+/// `(op a b)` at byte 7.
+fn operation(alloc: Global, op: u32, a: Atom, b: Atom) -> Result<Core, AllocError> {
+    let mut args = Items::new(alloc);
+    args.push(constant(10, a))?;
+    args.push(constant(12, b))?;
+    Ok(core(7, Node::Prim { op, args }))
+}
+
+/// `(print form)` at byte 0, and nothing else.
+fn printed(alloc: Global, form: Core) -> Result<Program, AllocError> {
+    let mut body = Items::new(alloc);
+    body.push(core(0, Node::Print(Boxed::new(alloc, form)?)))?;
+    Ok(Program {
+        functions: Items::new(alloc),
+        globals: Items::new(alloc),
+        body,
+        names: 46,
     })
+}
+
+/// `(print (+ a b))`, with the sum at byte 7.
+fn sum_printed(alloc: Global, a: i64, b: i64) -> Result<Program, AllocError> {
+    let sum = operation(alloc, SUM, Atom::Int(a), Atom::Int(b))?;
+    printed(alloc, sum)
 }
 
 #[test]
 fn programs_are_told_as_they_mean(rt: HostRuntime) -> Result<(), AllocError> {
     let alloc = rt.alloc();
     let limits = Limits::usual();
+    let names = Names::new(alloc)?;
 
-    let code = compile(alloc, &sum_printed(alloc, 40, 2)?).map_err(|_| AllocError)?;
+    let code = compile(alloc, &names, &sum_printed(alloc, 40, 2)?).map_err(|_| AllocError)?;
     let told = run(alloc, code.as_slice(), &limits)?;
     assert!(rt; told.output.as_slice() == b"42\n".as_slice());
     let journal = [
@@ -63,7 +81,7 @@ fn programs_are_told_as_they_mean(rt: HostRuntime) -> Result<(), AllocError> {
     ];
     assert!(rt; told.journal.as_slice() == journal.as_slice());
 
-    let code = compile(alloc, &sum_printed(alloc, i64::MAX, 1)?).map_err(|_| AllocError)?;
+    let code = compile(alloc, &names, &sum_printed(alloc, i64::MAX, 1)?).map_err(|_| AllocError)?;
     let told = run(alloc, code.as_slice(), &limits)?;
     let stop = Stop::Fault {
         kind: RunFault::Overflow,
@@ -76,17 +94,52 @@ fn programs_are_told_as_they_mean(rt: HostRuntime) -> Result<(), AllocError> {
     Ok(())
 }
 
+/// The offset at which a program is refused, or none.
+fn unbuilt(alloc: Global, program: &Program) -> Result<Option<u64>, AllocError> {
+    let names = Names::new(alloc)?;
+    match compile(alloc, &names, program) {
+        Ok(_) => Ok(None),
+        Err(CompileRefusal::Unbuilt { at }) => Ok(Some(at)),
+        Err(CompileRefusal::Memory(error)) => Err(error),
+    }
+}
+
 #[test]
-fn symbols_are_outside(rt: HostRuntime) -> Result<(), AllocError> {
+fn what_cannot_run_is_refused(rt: HostRuntime) -> Result<(), AllocError> {
     let alloc = rt.alloc();
-    let mut forms = Items::new(alloc);
-    forms.push(atom(Atom::Sym(0)))?;
-    let text = Text {
-        forms,
-        names: Names::new(alloc)?,
-    };
-    let refused = matches!(&compile(alloc, &text), Err(CompileRefusal::Outside));
-    assert!(rt; refused);
+    assert!(rt; unbuilt(alloc, &sum_printed(alloc, 1, 2)?)?.is_none());
+    let nil = printed(alloc, constant(7, Atom::Sym(NIL)))?;
+    assert!(rt; unbuilt(alloc, &nil)? == Some(7));
+    let inner = operation(alloc, SUM, Atom::Int(1), Atom::Sym(NIL))?;
+    assert!(rt; unbuilt(alloc, &printed(alloc, inner)?)? == Some(12));
+    let outer = operation(alloc, DIFFERENCE, Atom::Sym(NIL), Atom::Int(1))?;
+    assert!(rt; unbuilt(alloc, &printed(alloc, outer)?)? == Some(7));
+    let no_operands = core(
+        7,
+        Node::Prim {
+            op: SUM,
+            args: Items::new(alloc),
+        },
+    );
+    assert!(rt; unbuilt(alloc, &printed(alloc, no_operands)?)? == Some(7));
+    Ok(())
+}
+
+#[test]
+fn functions_cannot_run(rt: HostRuntime) -> Result<(), AllocError> {
+    let alloc = rt.alloc();
+    let params: Items<Binder> = Items::new(alloc);
+    let mut functions = Items::new(alloc);
+    functions.push(Function {
+        name: 46,
+        at: Offset(20),
+        named: Offset(27),
+        params,
+        body: constant(32, Atom::Int(1)),
+    })?;
+    let mut program = sum_printed(alloc, 1, 2)?;
+    program.functions = functions;
+    assert!(rt; unbuilt(alloc, &program)? == Some(20));
     Ok(())
 }
 

@@ -1,6 +1,6 @@
-use Rattle.std.proofs.Common.{◌≡◌, ◌<◌, ◌∙◌, ap, sym, arith, Some, map, length, refl, set}
+use Rattle.std.proofs.Common.{◌<◌, ◌∙◌, ap, sym, arith, Some, length, refl, set}
 use Rattle.std.proofs.lemmas.List.{length-map}
-use Rattle.ql_expand.specs.View.{letters, function_of, binder_of}
+use Rattle.ql_expand.specs.View.{function_of, binder_of}
 use Rattle.ql_scope.specs.Scope.{head_of}
 use Rattle.ql_scope.proofs.Letters.{known_at, new_at}
 use Rattle.ql_scope.proofs.functions.parameter_counts.Goals as goal

@@ -1,4 +1,4 @@
-use Rattle.std.proofs.Common.{◌≡◌, map, drop}
+use Rattle.std.proofs.Common.{◌≡◌, drop}
 use Rattle.ql_expand.specs.View.{binders_of}
 use Rattle.ql_scope.specs.Fault.{first_of}
 use Rattle.ql_scope.specs.Scope.{binders_faults}

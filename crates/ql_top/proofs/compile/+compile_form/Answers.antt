@@ -1,31 +1,25 @@
-use Rattle.std.proofs.Common.{sym}
-use Rattle.ql_top.proofs.Compiles.{on_ok, adds_sum, short_has_none, long_has_none, two_has_none, three_has_none}
+use Rattle.ql_expand.specs.View as view
+use Rattle.ql_expand.specs.View.{letters}
+use Rattle.ql_meaning.specs.Core.{core_of}
+use Rattle.ql_scope.proofs.Opened.{opened}
+use Rattle.ql_top.proofs.Opened.{constant_is, print_is}
+use Rattle.ql_top.proofs.Compiles.{on_ok, adds_print, adds_short, adds_long}
 use Rattle.ql_top.proofs.compile.+compile_form.Goals as goal
 
-pub compile_list-returns-in_ok-compile_form-in-len3-2-clause-ok :
-    goal.compile_list-returns-in_ok-compile_form-in-len3-2-clause-ok
-compile_list-returns-in_ok-compile_form-in-len3-2-clause-ok t c =
-    on_ok c.put-in-len3.result
-    (adds_sum c.args.names.now c.args.at.0 c.args.items.now _ _ _ c.args.code.now.items _ _ _ c.in-len3.len_at_least c.in-len3.len_below
-    c.head-item-then-items-lt4.is c.first-item.is c.second-item.is
-    (sym c.if-is_word-2.ensures) c.in_ok-compile_form-in-len3.ensures.ok c.in_ok-compile_form-in-len3-2.ensures.ok)
-    c.put-in-len3.ensures.ok
+pub compile_form-returns-in-Const : goal.compile_form-returns-in-Const
+compile_form-returns-in-Const t c =
+    rw (opened c.args.names.now c.args.form.now, c.in-Const.is, constant_is c.args.names.now c.in-Const.constant) (c.compile_constant.ensures c.args.names.now)
 
-pub compile_list-returns-in_default-clause-outside :
-    goal.compile_list-returns-in_default-clause-outside
-compile_list-returns-in_default-clause-outside t c e = short_has_none c.args.names.now c.args.at.0 c.args.items.now c.in_default.len_below
+pub compile_form-returns-in_ok-compile_form-in-Print : goal.compile_form-returns-in_ok-compile_form-in-Print
+compile_form-returns-in_ok-compile_form-in-Print t c =
+    let step = on_ok c.put.result (adds_print c.args.form.now.at.0 (core_of (view.core_of c.args.names.now c.get.result.now)) c.args.code.now.items
+    c.compile_form.new.code.items c.put.new.code.items c.in_ok-compile_form-in-Print.ensures) c.put.ensures in
+    rw (opened c.args.names.now c.args.form.now, c.in-Print.is, print_is c.args.names.now c.in-Print.printed) (rw c.get.ensures at step)
 
-pub compile_list-returns-in_default-2-clause-outside :
-    goal.compile_list-returns-in_default-2-clause-outside
-compile_list-returns-in_default-2-clause-outside t c e =
-    two_has_none c.args.names.now c.args.at.0 c.args.items.now _ c.in-len2.len_at_least c.in-len2.len_below c.head-item.is (sym c.if-is_word.ensures)
+pub compile_primitive-returns-in_default : goal.compile_primitive-returns-in_default
+compile_primitive-returns-in_default t c =
+    adds_short c.args.names.now c.args.at.0 (letters c.args.names.now c.args.operator) c.args.operands.now _ _ c.in_default.len_below
 
-pub compile_list-returns-in_default-3-clause-outside :
-    goal.compile_list-returns-in_default-3-clause-outside
-compile_list-returns-in_default-3-clause-outside t c e =
-    three_has_none c.args.names.now c.args.at.0 c.args.items.now _ c.in-len3.len_at_least c.in-len3.len_below c.head-item-then-items-lt4.is
-    (sym c.if-is_word-2.ensures)
-
-pub compile_list-returns-in_default-4-clause-outside :
-    goal.compile_list-returns-in_default-4-clause-outside
-compile_list-returns-in_default-4-clause-outside t c e = long_has_none c.args.names.now c.args.at.0 c.args.items.now c.in_default.len_at_least
+pub compile_primitive-returns-in_default-3 : goal.compile_primitive-returns-in_default-3
+compile_primitive-returns-in_default-3 t c =
+    adds_long c.args.names.now c.args.at.0 (letters c.args.names.now c.args.operator) c.args.operands.now _ _ c.in_default.len_at_least

@@ -1,16 +1,27 @@
-use Rattle.std.proofs.Common.{List, ap, ◌∙◌}
-use Rattle.ql_forms.specs.View.{forms_of}
-use Rattle.ql_meaning.specs.Core.{program_of}
+use Rattle.std.proofs.Common.{List, map, ap, ◌∙◌, sym}
+use Rattle.ql_expand.specs.View.{letters, function_of, cores_of, program_of}
 use Rattle.ql_top.specs.Machine.{code_told}
 use Rattle.ql_top.specs.declared.code.Instruction.{Instruction}
-use Rattle.ql_top.proofs.Compiles.{program_code}
+use Rattle.ql_top.proofs.Compiles.{forms_can_run, no_place}
 use Rattle.ql_top.proofs.Follows.{code_told_same}
 use Rattle.ql_top.proofs.compile.compile.Goals as goal
 
-pub returns-clause-simulation : goal.returns-clause-simulation
-returns-clause-simulation c program is limits schedule =
+pub returns-in-Ok-clause-ok : goal.returns-in-Ok-clause-ok
+returns-in-Ok-clause-ok c =
+    let names = c.args.names.now in
+    let program = c.args.program.now in
+    let has = c.none_where_all_can_run.ensures.none (program_of names program) (sym c.first_unbuilt.ensures ∙ no_place c.first_unbuilt.result c.in_default.not-Some) in (
+      has.0,
+      has.1,
+      (rw c.as_slice.ensures at c.in-Ok.ensures) has.0
+          (forms_can_run (map (function_of names) program.functions) (map (letters names) program.globals) (cores_of names program.body) has.0 has.1),
+    )
+
+pub returns-in-Ok-clause-simulation : goal.returns-in-Ok-clause-simulation
+returns-in-Ok-clause-simulation c meant is limits schedule =
+    let names = c.args.names.now in
+    let program = c.args.program.now in
     ap (λ (code : List Instruction). code_told code limits schedule)
-    (program_code (program_of (forms_of c.args.text.now.names c.args.text.now.forms)) program c.new-code.result.items
-    c.compile_forms.new.code.items c.put.new.code.items (rw c.as_slice.ensures at c.in_ok-compile_forms.ensures.ok)
-    c.new-code.ensures.items c.in_ok-put.ensures.ok is)
-    ∙ code_told_same program limits schedule
+    ((rw c.as_slice.ensures at c.in-Ok.ensures) meant
+    (forms_can_run (map (function_of names) program.functions) (map (letters names) program.globals) (cores_of names program.body) meant is))
+    ∙ code_told_same meant limits schedule

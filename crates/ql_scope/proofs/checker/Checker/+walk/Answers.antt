@@ -1,4 +1,4 @@
-use Rattle.std.proofs.Common.{rules, ◌≡◌, ◌++◌, List, ℕ, drop, map, true, false, ◌∙◌, ◌+◌, ◌<◌, ap, sym, refl, arith, length, append_assoc}
+use Rattle.std.proofs.Common.{◌++◌, drop, true, ◌∙◌, ◌+◌, ◌<◌, ap, sym, refl, arith, length, append_assoc}
 use Rattle.ql_expand.specs.View.{core_of, node_of, cores_of, bounds_of, binders_of, name_of, letters}
 use Rattle.ql_scope.specs.Fault.{first_of}
 use Rattle.ql_scope.specs.Scope.{node_faults, core_faults, cores_faults, arguments_faults, values_faults, cleanup_faults, number_faults, place_of, use_faults, count_faults, list_faults, under, count_of, parameter_count, binders_in}

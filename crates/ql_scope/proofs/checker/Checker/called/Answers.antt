@@ -1,4 +1,4 @@
-use Rattle.std.proofs.Common.{rules, ◌≡◌, ◌∙◌, sym, Some}
+use Rattle.std.proofs.Common.{◌≡◌, ◌∙◌, sym, Some}
 use Rattle.ql_expand.specs.View.{letters}
 use Rattle.ql_scope.specs.Scope.{parameter_count}
 use Rattle.ql_scope.proofs.Opened.{count_all}

@@ -1,4 +1,3 @@
-use Rattle.std.proofs.Common.{rules, ◌≡◌}
 use Rattle.ql_scope.proofs.checker.Checker.cleanup_form.Goals as goal
 
 pub returns-clause-first : goal.returns-clause-first

@@ -1,4 +1,4 @@
-use Rattle.std.proofs.Common.{◌≡◌, ◌++◌, ◌+◌, ◌<◌, ◌∙◌, ap, sym, arith, length, map, drop, false}
+use Rattle.std.proofs.Common.{◌++◌, ◌+◌, ◌<◌, ◌∙◌, ap, sym, arith, length, map, drop, false}
 use Rattle.ql_expand.specs.View.{core_of, binders_of, function_of}
 use Rattle.ql_scope.specs.Fault.{first_of}
 use Rattle.ql_scope.specs.Scope.{core_faults, list_faults, functions_faults, under}
