@@ -1,6 +1,6 @@
 //! The core of forms.
 
-ghost use Rattle.std.specs.Prelude.{◌≡◌, ℕ, IfOk, codes};
+ghost use Rattle.std.specs.Prelude.{◌≡◌, ℕ, IfOk, codes, false};
 ghost use Rattle.ql_forms.specs.View.{form_of, forms_of};
 ghost use Rattle.ql_forms.specs.Form.{more};
 ghost use Rattle.ql_expand.specs.Core.{core, primitive, call};
@@ -10,13 +10,13 @@ ghost use Rattle.ql_expand.specs.View.{letters, bound_of, bounds_of, core_of, co
 ghost use Rattle.ql_expand.specs.Word.{letters_of_word};
 
 use crate::form::{Symbol, atom_in, letters, offset_of, operation_in, proper_items, symbol_in};
-use crate::make::Builder;
+use crate::make::{Builder, first_item};
 use crate::operator::{Operator, operator_of};
 use crate::program::{Bound, Core};
 use crate::word::Word;
 use ql_base::numbers::Offset;
 use ql_forms::form::Form;
-use sqlite_items::Items;
+use sqlite_items::{Boxed, Items};
 use std::alloc::AllocError;
 
 impl<'a> Builder<'a> {
@@ -33,6 +33,15 @@ impl<'a> Builder<'a> {
             None => Ok(self.nil_core(at)),
             Some((operator, parts)) => self.applied_core(dropped, at, operator, parts),
         }
+    }
+
+    // The same, boxed, of a form whose value is used.
+    #[cycle(build)]
+    pub fn boxed(&self, form: &Form) -> Result<Boxed<Core>, AllocError>
+        ensures { IfOk result (λ c. core_of self.now.names.now c ≡ expanded false (form_of self.now.names.now form.now)) }
+    {
+        let core = self.expanded(false, form)?;
+        Boxed::new(self.alloc, core)
     }
 
     // Of a list with this operator.
@@ -99,6 +108,15 @@ impl<'a> Builder<'a> {
         }
     }
 
+    // The same, boxed.
+    #[cycle(build)]
+    fn boxed_body(&self, at: Offset, forms: &[Form]) -> Result<Boxed<Core>, AllocError>
+        ensures { IfOk result (λ c. core_of self.now.names.now c ≡ body at.0 (forms_of self.now.names.now forms.now)) }
+    {
+        let core = self.body(at, forms)?;
+        Boxed::new(self.alloc, core)
+    }
+
     // Forms of which only the last one's value is used.
     #[cycle(build)]
     fn in_turn(&self, forms: &[Form]) -> Result<Items<Core>, AllocError>
@@ -137,8 +155,8 @@ impl<'a> Builder<'a> {
         match self.assignment_in(parts) {
             None => Ok(self.nil_core(at)),
             Some((variable, value)) => {
-                let value = self.expanded(false, value)?;
-                self.setq(at, variable, value)
+                let value = self.boxed(value)?;
+                Ok(self.setq(at, variable, value))
             }
         }
     }
@@ -155,9 +173,10 @@ impl<'a> Builder<'a> {
         };
         match self.split_first(others) {
             None => {
-                let test = self.expanded(false, test)?;
-                let then = self.expanded(false, then)?;
-                self.conditional(at, test, then, self.nil_core(at))
+                let test = self.boxed(test)?;
+                let then = self.boxed(then)?;
+                let other = self.boxed_nil(at)?;
+                Ok(self.conditional(at, test, then, other))
             }
             Some((other, rest)) => self.full_if_core(at, test, then, other, rest),
         }
@@ -179,10 +198,10 @@ impl<'a> Builder<'a> {
     {
         match self.split_first(rest) {
             None => {
-                let test = self.expanded(false, test)?;
-                let then = self.expanded(false, then)?;
-                let other = self.expanded(false, other)?;
-                self.conditional(at, test, then, other)
+                let test = self.boxed(test)?;
+                let then = self.boxed(then)?;
+                let other = self.boxed(other)?;
+                Ok(self.conditional(at, test, then, other))
             }
             Some(_) => Ok(self.nil_core(at)),
         }
@@ -251,8 +270,8 @@ impl<'a> Builder<'a> {
             return Ok(self.nil_core(at));
         };
         let binds = self.bounds_in(binds)?;
-        let body = self.body(at, forms)?;
-        self.binding(at, binds, body)
+        let body = self.boxed_body(at, forms)?;
+        Ok(self.binding(at, binds, body))
     }
 
     #[cycle(build)]
@@ -265,10 +284,10 @@ impl<'a> Builder<'a> {
         let Some((binds, forms)) = self.split_first(others) else {
             return Ok(self.nil_core(at));
         };
-        let proposition = self.expanded(false, proposition)?;
+        let proposition = self.boxed(proposition)?;
         let binds = self.bounds_in(binds)?;
-        let body = self.body(at, forms)?;
-        self.qlet(at, proposition, binds, body)
+        let body = self.boxed_body(at, forms)?;
+        Ok(self.qlet(at, proposition, binds, body))
     }
 
     #[cycle(build)]
@@ -279,8 +298,8 @@ impl<'a> Builder<'a> {
             return Ok(self.nil_core(at));
         };
         let parameters = self.parameters_of(parameters)?;
-        let body = self.body(at, forms)?;
-        self.lambda(at, parameters, body)
+        let body = self.boxed_body(at, forms)?;
+        Ok(self.lambda(at, parameters, body))
     }
 
     #[cycle(build)]
@@ -293,10 +312,10 @@ impl<'a> Builder<'a> {
         let Some((parameters, forms)) = self.split_first(others) else {
             return Ok(self.nil_core(at));
         };
-        let proposition = self.expanded(false, proposition)?;
+        let proposition = self.boxed(proposition)?;
         let parameters = self.parameters_of(parameters)?;
-        let body = self.body(at, forms)?;
-        self.qlambda(at, proposition, parameters, body)
+        let body = self.boxed_body(at, forms)?;
+        Ok(self.qlambda(at, proposition, parameters, body))
     }
 
     #[cycle(build)]
@@ -306,9 +325,9 @@ impl<'a> Builder<'a> {
         let Some((tag, forms)) = self.split_first(parts) else {
             return Ok(self.nil_core(at));
         };
-        let tag = self.expanded(false, tag)?;
-        let body = self.body(at, forms)?;
-        self.catch(at, tag, body)
+        let tag = self.boxed(tag)?;
+        let body = self.boxed_body(at, forms)?;
+        Ok(self.catch(at, tag, body))
     }
 
     #[cycle(build)]
@@ -318,9 +337,9 @@ impl<'a> Builder<'a> {
         let Some((tag, forms)) = self.split_first(parts) else {
             return Ok(self.nil_core(at));
         };
-        let tag = self.expanded(false, tag)?;
-        let body = self.body(at, forms)?;
-        self.qcatch(at, tag, body)
+        let tag = self.boxed(tag)?;
+        let body = self.boxed_body(at, forms)?;
+        Ok(self.qcatch(at, tag, body))
     }
 
     #[cycle(build)]
@@ -335,9 +354,9 @@ impl<'a> Builder<'a> {
         };
         match self.split_first(rest) {
             None => {
-                let tag = self.expanded(false, tag)?;
-                let value = self.expanded(false, value)?;
-                self.throw(at, tag, value)
+                let tag = self.boxed(tag)?;
+                let value = self.boxed(value)?;
+                Ok(self.throw(at, tag, value))
             }
             Some(_) => Ok(self.nil_core(at)),
         }
@@ -350,9 +369,9 @@ impl<'a> Builder<'a> {
         let Some((value, forms)) = self.split_first(parts) else {
             return Ok(self.nil_core(at));
         };
-        let value = self.expanded(false, value)?;
-        let cleanup = self.body(at, forms)?;
-        self.protect(at, value, cleanup)
+        let value = self.boxed(value)?;
+        let cleanup = self.boxed_body(at, forms)?;
+        Ok(self.protect(at, value, cleanup))
     }
 
     #[cycle(build)]
@@ -362,9 +381,9 @@ impl<'a> Builder<'a> {
         let Some((function, operands)) = self.split_first(parts) else {
             return Ok(self.nil_core(at));
         };
-        let function = self.expanded(false, function)?;
+        let function = self.boxed(function)?;
         let args = self.each(operands)?;
-        self.funcall(at, dropped, function, args)
+        Ok(self.funcall(at, dropped, function, args))
     }
 
     #[cycle(build)]
@@ -376,8 +395,8 @@ impl<'a> Builder<'a> {
         };
         match self.split_first(others) {
             None => {
-                let value = self.expanded(false, value)?;
-                self.print(at, value)
+                let value = self.boxed(value)?;
+                Ok(self.print(at, value))
             }
             Some(_) => Ok(self.nil_core(at)),
         }
@@ -443,8 +462,10 @@ impl<'a> Builder<'a> {
         let Some((form, others)) = self.split_first(forms) else {
             return Ok(first);
         };
+        let mut args = first_item(self.alloc, 2, first)?;
         let second = self.expanded(false, form)?;
-        let both = self.primitive_of_two(at, op, first, second)?;
+        args.push(second)?;
+        let both = self.primitive(at, op, Items::from_vec(args));
         self.folded(at, op, both, others)
     }
 
@@ -456,8 +477,10 @@ impl<'a> Builder<'a> {
             return Ok(self.nil_core(at));
         };
         let first = self.expanded(false, form)?;
+        let mut args = first_item(self.alloc, 2, first)?;
         let rest = self.list_core(at, others)?;
-        self.primitive_of_two(at, Word::Cons.number(self.names), first, rest)
+        args.push(rest)?;
+        Ok(self.primitive(at, Word::Cons.number(self.names), Items::from_vec(args)))
     }
 
     #[cycle(build)]
@@ -470,9 +493,11 @@ impl<'a> Builder<'a> {
         match self.split_first(others) {
             None => self.expanded(dropped, form),
             Some(_) => {
-                let test = self.expanded(false, form)?;
+                let test = self.boxed(form)?;
                 let rest = self.and_all(false, at, others)?;
-                self.conditional(at, test, rest, self.nil_core(at))
+                let rest = Boxed::new(self.alloc, rest)?;
+                let nil = self.boxed_nil(at)?;
+                Ok(self.conditional(at, test, rest, nil))
             }
         }
     }
@@ -487,8 +512,9 @@ impl<'a> Builder<'a> {
         match self.split_first(others) {
             None => self.expanded(dropped, form),
             Some(_) => {
-                let first = self.expanded(false, form)?;
                 let rest = self.or_all(false, at, others)?;
+                let rest = Boxed::new(self.alloc, rest)?;
+                let first = self.expanded(false, form)?;
                 self.either_core(at, first, rest)
             }
         }
@@ -501,9 +527,10 @@ impl<'a> Builder<'a> {
         let Some((test, forms)) = self.split_first(parts) else {
             return Ok(self.nil_core(at));
         };
-        let test = self.expanded(false, test)?;
-        let body = self.body(at, forms)?;
-        self.conditional(at, test, body, self.nil_core(at))
+        let test = self.boxed(test)?;
+        let body = self.boxed_body(at, forms)?;
+        let nil = self.boxed_nil(at)?;
+        Ok(self.conditional(at, test, body, nil))
     }
 
     #[cycle(build)]
@@ -513,9 +540,10 @@ impl<'a> Builder<'a> {
         let Some((test, forms)) = self.split_first(parts) else {
             return Ok(self.nil_core(at));
         };
-        let test = self.expanded(false, test)?;
-        let body = self.body(at, forms)?;
-        self.conditional(at, test, self.nil_core(at), body)
+        let test = self.boxed(test)?;
+        let nil = self.boxed_nil(at)?;
+        let body = self.boxed_body(at, forms)?;
+        Ok(self.conditional(at, test, nil, body))
     }
 
     #[cycle(build)]
@@ -531,13 +559,17 @@ impl<'a> Builder<'a> {
         let Some((test, forms)) = self.split_first(items) else {
             return Ok(self.nil_core(at));
         };
-        let test = self.expanded(false, test)?;
         let rest = self.cond_core(at, others)?;
+        let rest = Boxed::new(self.alloc, rest)?;
         match self.split_first(forms) {
-            None => self.either_core(at, test, rest),
+            None => {
+                let test = self.expanded(false, test)?;
+                self.either_core(at, test, rest)
+            }
             Some(_) => {
-                let body = self.body(at, forms)?;
-                self.conditional(at, test, body, rest)
+                let test = self.boxed(test)?;
+                let body = self.boxed_body(at, forms)?;
+                Ok(self.conditional(at, test, body, rest))
             }
         }
     }
@@ -549,27 +581,31 @@ impl<'a> Builder<'a> {
         let Some((binds, forms)) = self.split_first(parts) else {
             return Ok(self.nil_core(at));
         };
-        let body = self.body(at, forms)?;
+        let body = self.boxed_body(at, forms)?;
         match proper_items(binds) {
-            None => self.binding(at, Items::new(self.alloc), body),
+            None => Ok(self.binding(at, Items::new(self.alloc), body)),
             Some(items) => self.nested(at, items, body),
         }
     }
 
     // A body under bindings of which each sees those before it.
     #[cycle(build)]
-    fn nested(&self, at: Offset, binds: &[Form], body: Core) -> Result<Core, AllocError>
+    fn nested(&self, at: Offset, binds: &[Form], body: Boxed<Core>) -> Result<Core, AllocError>
         ensures { IfOk result (λ c. core_of self.now.names.now c ≡ nested at.0 (forms_of self.now.names.now binds.now) (core_of self.now.names.now body)) }
     {
         let Some((bind, others)) = self.split_first(binds) else {
-            return self.binding(at, Items::new(self.alloc), body);
+            return Ok(self.binding(at, Items::new(self.alloc), body));
         };
-        let bind = self.bind(bind)?;
         match self.split_first(others) {
-            None => self.binding_of_one(at, bind, body),
-            Some(_) => {
-                let body = self.nested(at, others, body)?;
+            None => {
+                let bind = self.bind(bind)?;
                 self.binding_of_one(at, bind, body)
+            }
+            Some(_) => {
+                let inner = self.nested(at, others, body)?;
+                let inner = Boxed::new(self.alloc, inner)?;
+                let bind = self.bind(bind)?;
+                self.binding_of_one(at, bind, inner)
             }
         }
     }

@@ -1,6 +1,6 @@
 //! Core forms of their parts.
 
-ghost use Rattle.std.specs.Prelude.{◌≡◌, Bool, IfOk};
+ghost use Rattle.std.specs.Prelude.{◌≡◌, Bool, IfOk, [], ◌∷◌};
 ghost use Rattle.ql_forms.specs.View.{atom_of, form_of};
 ghost use Rattle.ql_forms.specs.Form.{atom, integer, symbol};
 ghost use Rattle.ql_expand.specs.Core.{named, hidden, binder, core, constant, variable, setq, conditional, progn, binding, primitive, print, call, funcall, lambda, qlet, qlambda, catch, qcatch, throw, protect, defvar};
@@ -19,10 +19,39 @@ use sqlite_items::{Boxed, Items};
 use std::alloc::{AllocError, Global};
 
 /// Builds core, with the names of a source.
+///
+/// Core that is held where memory may be wanting is boxed or stands in a vector. To let go of bare core
+/// is to look at each kind of it, at every call that may fail, and the proof would look there too.
 #[derive(Clone, Copy)]
 pub struct Builder<'a> {
     pub alloc: Global,
     pub names: &'a Names,
+}
+
+/// A vector with room for so many items, and this one in it.
+pub fn first_item<T: Drop>(alloc: Global, room: usize, item: T) -> Result<Vec<T>, AllocError>
+    ensures { IfOk result (λ vec. vec.items ≡ item ∷ []) }
+{
+    let mut items = Vec::with_capacity(alloc, room)?;
+    items.push(item)?;
+    Ok(items)
+}
+
+/// This item alone.
+pub fn one_item<T: Drop>(alloc: Global, item: T) -> Result<Items<T>, AllocError>
+    ensures { IfOk result (λ items. items ≡ item ∷ []) }
+{
+    let items = first_item(alloc, 1, item)?;
+    Ok(Items::from_vec(items))
+}
+
+/// These two items.
+pub fn two_items<T: Drop>(alloc: Global, first: T, second: T) -> Result<Items<T>, AllocError>
+    ensures { IfOk result (λ items. items ≡ first ∷ second ∷ []) }
+{
+    let mut items = first_item(alloc, 2, first)?;
+    items.push(second)?;
+    Ok(Items::from_vec(items))
 }
 
 impl<'a> Builder<'a> {
@@ -42,6 +71,13 @@ impl<'a> Builder<'a> {
         ensures { core_of self.now.names.now result ≡ nil_core at.0 }
     {
         self.symbol_core(at, Word::Nil.number(self.names))
+    }
+
+    /// The constant nil, boxed.
+    pub fn boxed_nil(&self, at: Offset) -> Result<Boxed<Core>, AllocError>
+        ensures { IfOk result (λ c. core_of self.now.names.now c ≡ nil_core at.0) }
+    {
+        Boxed::new(self.alloc, self.nil_core(at))
     }
 
     /// The constant t.
@@ -111,40 +147,34 @@ impl<'a> Builder<'a> {
     }
 
     /// A change of a variable.
-    pub fn setq(&self, at: Offset, variable: Symbol, value: Core) -> Result<Core, AllocError>
-        ensures { IfOk result (λ c. core_of self.now.names.now c
-            ≡ core at.0 (setq (named (letters self.now.names.now variable.number)) variable.at.0 (core_of self.now.names.now value))) }
+    pub fn setq(&self, at: Offset, variable: Symbol, value: Boxed<Core>) -> Core
+        ensures { core_of self.now.names.now result ≡ core at.0 (setq (named (letters self.now.names.now variable.number)) variable.at.0 (core_of self.now.names.now value)) }
     {
-        let value = Boxed::new(self.alloc, value)?;
         let name = VarName::Sym(variable.number);
-        Ok(Core {
+        Core {
             at,
             node: Node::Setq {
                 name,
                 named: variable.at,
                 value,
             },
-        })
+        }
     }
 
     /// A conditional.
     pub fn conditional(
         &self,
         at: Offset,
-        test: Core,
-        then: Core,
-        other: Core,
-    ) -> Result<Core, AllocError>
-        ensures { IfOk result (λ c. core_of self.now.names.now c
-            ≡ core at.0 (conditional (core_of self.now.names.now test) (core_of self.now.names.now then) (core_of self.now.names.now other))) }
+        test: Boxed<Core>,
+        then: Boxed<Core>,
+        other: Boxed<Core>,
+    ) -> Core
+        ensures { core_of self.now.names.now result ≡ core at.0 (conditional (core_of self.now.names.now test) (core_of self.now.names.now then) (core_of self.now.names.now other)) }
     {
-        let test = Boxed::new(self.alloc, test)?;
-        let then = Boxed::new(self.alloc, then)?;
-        let other = Boxed::new(self.alloc, other)?;
-        Ok(Core {
+        Core {
             at,
             node: Node::If { test, then, other },
-        })
+        }
     }
 
     /// Forms in turn.
@@ -180,34 +210,43 @@ impl<'a> Builder<'a> {
     }
 
     /// Bindings round a body.
-    pub fn binding(&self, at: Offset, binds: Items<Bound>, body: Core) -> Result<Core, AllocError>
-        ensures { IfOk result (λ c. core_of self.now.names.now c ≡ core at.0 (binding (bounds_of self.now.names.now binds) (core_of self.now.names.now body))) }
+    pub fn binding(&self, at: Offset, binds: Items<Bound>, body: Boxed<Core>) -> Core
+        ensures { core_of self.now.names.now result ≡ core at.0 (binding (bounds_of self.now.names.now binds) (core_of self.now.names.now body)) }
     {
-        let body = Boxed::new(self.alloc, body)?;
-        Ok(Core {
+        Core {
             at,
             node: Node::Let { binds, body },
-        })
+        }
     }
 
     /// One binding round a body.
-    pub fn binding_of_one(&self, at: Offset, bind: Bound, body: Core) -> Result<Core, AllocError>
+    pub fn binding_of_one(
+        &self,
+        at: Offset,
+        bind: Bound,
+        body: Boxed<Core>,
+    ) -> Result<Core, AllocError>
         ensures { IfOk result (λ c. core_of self.now.names.now c
             ≡ core at.0 (binding (one_bound (bound_of self.now.names.now bind).0 (bound_of self.now.names.now bind).1) (core_of self.now.names.now body))) }
     {
-        let mut binds = Vec::with_capacity(self.alloc, 1)?;
-        binds.push(bind)?;
-        self.binding(at, Items::from_vec(binds), body)
+        let binds = one_item(self.alloc, bind)?;
+        Ok(self.binding(at, binds, body))
     }
 
     /// The first, or else the second.
-    pub fn either_core(&self, at: Offset, first: Core, second: Core) -> Result<Core, AllocError>
+    pub fn either_core(
+        &self,
+        at: Offset,
+        first: Core,
+        second: Boxed<Core>,
+    ) -> Result<Core, AllocError>
         ensures { IfOk result (λ c. core_of self.now.names.now c ≡ either_core at.0 (core_of self.now.names.now first) (core_of self.now.names.now second)) }
     {
-        let test = self.variable(at, VarName::Hidden(0));
-        let then = self.variable(at, VarName::Hidden(0));
-        let body = self.conditional(at, test, then, second)?;
-        self.binding_of_one(at, self.hidden_bound(at, first), body)
+        let binds = one_item(self.alloc, self.hidden_bound(at, first))?;
+        let test = Boxed::new(self.alloc, self.variable(at, VarName::Hidden(0)))?;
+        let then = Boxed::new(self.alloc, self.variable(at, VarName::Hidden(0)))?;
+        let body = Boxed::new(self.alloc, self.conditional(at, test, then, second))?;
+        Ok(self.binding(at, binds, body))
     }
 
     /// A primitive.
@@ -224,9 +263,8 @@ impl<'a> Builder<'a> {
     pub fn primitive_of_one(&self, at: Offset, op: u32, value: Core) -> Result<Core, AllocError>
         ensures { IfOk result (λ c. core_of self.now.names.now c ≡ with_one at.0 (letters self.now.names.now op) (core_of self.now.names.now value)) }
     {
-        let mut args = Vec::with_capacity(self.alloc, 1)?;
-        args.push(value)?;
-        Ok(self.primitive(at, op, Items::from_vec(args)))
+        let args = one_item(self.alloc, value)?;
+        Ok(self.primitive(at, op, args))
     }
 
     /// A primitive of two.
@@ -240,21 +278,18 @@ impl<'a> Builder<'a> {
         ensures { IfOk result (λ c. core_of self.now.names.now c
             ≡ with_two at.0 (letters self.now.names.now op) (core_of self.now.names.now first) (core_of self.now.names.now second)) }
     {
-        let mut args = Vec::with_capacity(self.alloc, 2)?;
-        args.push(first)?;
-        args.push(second)?;
-        Ok(self.primitive(at, op, Items::from_vec(args)))
+        let args = two_items(self.alloc, first, second)?;
+        Ok(self.primitive(at, op, args))
     }
 
     /// A print.
-    pub fn print(&self, at: Offset, value: Core) -> Result<Core, AllocError>
-        ensures { IfOk result (λ c. core_of self.now.names.now c ≡ core at.0 (print (core_of self.now.names.now value))) }
+    pub fn print(&self, at: Offset, value: Boxed<Core>) -> Core
+        ensures { core_of self.now.names.now result ≡ core at.0 (print (core_of self.now.names.now value)) }
     {
-        let value = Boxed::new(self.alloc, value)?;
-        Ok(Core {
+        Core {
             at,
             node: Node::Print(value),
-        })
+        }
     }
 
     /// A call of a function by its name.
@@ -272,133 +307,108 @@ impl<'a> Builder<'a> {
     }
 
     /// A call of a closure.
-    pub fn funcall(
-        &self,
-        at: Offset,
-        ignored: bool,
-        function: Core,
-        args: Items<Core>,
-    ) -> Result<Core, AllocError>
-        ensures { IfOk result (λ c. core_of self.now.names.now c
-            ≡ core at.0 (funcall ignored (core_of self.now.names.now function) (cores_of self.now.names.now args))) }
+    pub fn funcall(&self, at: Offset, ignored: bool, fun: Boxed<Core>, args: Items<Core>) -> Core
+        ensures { core_of self.now.names.now result ≡ core at.0 (funcall ignored (core_of self.now.names.now fun) (cores_of self.now.names.now args)) }
     {
-        let fun = Boxed::new(self.alloc, function)?;
-        Ok(Core {
+        Core {
             at,
             node: Node::Funcall { ignored, fun, args },
-        })
+        }
     }
 
     /// A closure.
-    pub fn lambda(&self, at: Offset, params: Items<Binder>, body: Core) -> Result<Core, AllocError>
-        ensures { IfOk result (λ c. core_of self.now.names.now c ≡ core at.0 (lambda (binders_of self.now.names.now params) (core_of self.now.names.now body))) }
+    pub fn lambda(&self, at: Offset, params: Items<Binder>, body: Boxed<Core>) -> Core
+        ensures { core_of self.now.names.now result ≡ core at.0 (lambda (binders_of self.now.names.now params) (core_of self.now.names.now body)) }
     {
-        let body = Boxed::new(self.alloc, body)?;
-        Ok(Core {
+        Core {
             at,
             node: Node::Lambda { params, body },
-        })
+        }
     }
 
     /// Bindings whose values may be found by processes, round a body.
     pub fn qlet(
         &self,
         at: Offset,
-        proposition: Core,
+        prop: Boxed<Core>,
         binds: Items<Bound>,
-        body: Core,
-    ) -> Result<Core, AllocError>
-        ensures { IfOk result (λ c. core_of self.now.names.now c
-            ≡ core at.0 (qlet (core_of self.now.names.now proposition) (bounds_of self.now.names.now binds) (core_of self.now.names.now body))) }
+        body: Boxed<Core>,
+    ) -> Core
+        ensures { core_of self.now.names.now result ≡ core at.0 (qlet (core_of self.now.names.now prop) (bounds_of self.now.names.now binds) (core_of self.now.names.now body)) }
     {
-        let prop = Boxed::new(self.alloc, proposition)?;
-        let body = Boxed::new(self.alloc, body)?;
-        Ok(Core {
+        Core {
             at,
             node: Node::Qlet { prop, binds, body },
-        })
+        }
     }
 
     /// A closure that may be a process.
     pub fn qlambda(
         &self,
         at: Offset,
-        proposition: Core,
+        prop: Boxed<Core>,
         params: Items<Binder>,
-        body: Core,
-    ) -> Result<Core, AllocError>
-        ensures { IfOk result (λ c. core_of self.now.names.now c
-            ≡ core at.0 (qlambda (core_of self.now.names.now proposition) (binders_of self.now.names.now params) (core_of self.now.names.now body))) }
+        body: Boxed<Core>,
+    ) -> Core
+        ensures { core_of self.now.names.now result ≡ core at.0 (qlambda (core_of self.now.names.now prop) (binders_of self.now.names.now params) (core_of self.now.names.now body)) }
     {
-        let prop = Boxed::new(self.alloc, proposition)?;
-        let body = Boxed::new(self.alloc, body)?;
-        Ok(Core {
+        Core {
             at,
             node: Node::Qlambda { prop, params, body },
-        })
+        }
     }
 
     /// A catch.
-    pub fn catch(&self, at: Offset, tag: Core, body: Core) -> Result<Core, AllocError>
-        ensures { IfOk result (λ c. core_of self.now.names.now c ≡ core at.0 (catch (core_of self.now.names.now tag) (core_of self.now.names.now body))) }
+    pub fn catch(&self, at: Offset, tag: Boxed<Core>, body: Boxed<Core>) -> Core
+        ensures { core_of self.now.names.now result ≡ core at.0 (catch (core_of self.now.names.now tag) (core_of self.now.names.now body)) }
     {
-        let tag = Boxed::new(self.alloc, tag)?;
-        let body = Boxed::new(self.alloc, body)?;
-        Ok(Core {
+        Core {
             at,
             node: Node::Catch { tag, body },
-        })
+        }
     }
 
     /// A catch that waits for the processes under it.
-    pub fn qcatch(&self, at: Offset, tag: Core, body: Core) -> Result<Core, AllocError>
-        ensures { IfOk result (λ c. core_of self.now.names.now c ≡ core at.0 (qcatch (core_of self.now.names.now tag) (core_of self.now.names.now body))) }
+    pub fn qcatch(&self, at: Offset, tag: Boxed<Core>, body: Boxed<Core>) -> Core
+        ensures { core_of self.now.names.now result ≡ core at.0 (qcatch (core_of self.now.names.now tag) (core_of self.now.names.now body)) }
     {
-        let tag = Boxed::new(self.alloc, tag)?;
-        let body = Boxed::new(self.alloc, body)?;
-        Ok(Core {
+        Core {
             at,
             node: Node::Qcatch { tag, body },
-        })
+        }
     }
 
     /// A throw.
-    pub fn throw(&self, at: Offset, tag: Core, value: Core) -> Result<Core, AllocError>
-        ensures { IfOk result (λ c. core_of self.now.names.now c ≡ core at.0 (throw (core_of self.now.names.now tag) (core_of self.now.names.now value))) }
+    pub fn throw(&self, at: Offset, tag: Boxed<Core>, value: Boxed<Core>) -> Core
+        ensures { core_of self.now.names.now result ≡ core at.0 (throw (core_of self.now.names.now tag) (core_of self.now.names.now value)) }
     {
-        let tag = Boxed::new(self.alloc, tag)?;
-        let value = Boxed::new(self.alloc, value)?;
-        Ok(Core {
+        Core {
             at,
             node: Node::Throw { tag, value },
-        })
+        }
     }
 
     /// A form with a cleanup.
-    pub fn protect(&self, at: Offset, value: Core, cleanup: Core) -> Result<Core, AllocError>
-        ensures { IfOk result (λ c. core_of self.now.names.now c ≡ core at.0 (protect (core_of self.now.names.now value) (core_of self.now.names.now cleanup))) }
+    pub fn protect(&self, at: Offset, value: Boxed<Core>, cleanup: Boxed<Core>) -> Core
+        ensures { core_of self.now.names.now result ≡ core at.0 (protect (core_of self.now.names.now value) (core_of self.now.names.now cleanup)) }
     {
-        let value = Boxed::new(self.alloc, value)?;
-        let cleanup = Boxed::new(self.alloc, cleanup)?;
-        Ok(Core {
+        Core {
             at,
             node: Node::Protect { value, cleanup },
-        })
+        }
     }
 
     /// A global and its first value.
-    pub fn defvar(&self, at: Offset, variable: Symbol, value: Core) -> Result<Core, AllocError>
-        ensures { IfOk result (λ c. core_of self.now.names.now c
-            ≡ core at.0 (defvar (letters self.now.names.now variable.number) variable.at.0 (core_of self.now.names.now value))) }
+    pub fn defvar(&self, at: Offset, variable: Symbol, value: Boxed<Core>) -> Core
+        ensures { core_of self.now.names.now result ≡ core at.0 (defvar (letters self.now.names.now variable.number) variable.at.0 (core_of self.now.names.now value)) }
     {
-        let value = Boxed::new(self.alloc, value)?;
-        Ok(Core {
+        Core {
             at,
             node: Node::Defvar {
                 name: variable.number,
                 named: variable.at,
                 value,
             },
-        })
+        }
     }
 }

@@ -116,8 +116,8 @@ impl<'a> Builder<'a> {
         let Some((symbol, value)) = self.assignment_in(parts) else {
             return self.core_top(form);
         };
-        let value = self.expanded(false, value)?;
-        let core = self.defvar(offset_of(form), symbol, value)?;
+        let value = self.boxed(value)?;
+        let core = self.defvar(offset_of(form), symbol, value);
         Ok(Top::Global(symbol.number, core))
     }
 

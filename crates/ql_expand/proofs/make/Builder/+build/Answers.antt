@@ -3,10 +3,10 @@ use Rattle.std.specs.Prelude.{false}
 use Rattle.std.proofs.lemmas.List.{length-take-le}
 use Rattle.ql_forms.specs.Form.{none, more}
 use Rattle.ql_forms.specs.View.{form_of, forms_of}
-use Rattle.ql_expand.specs.Core.{core, binder, hidden, conditional, binding, qlet, qlambda, throw, print}
+use Rattle.ql_expand.specs.Core.{core, binder, hidden, conditional, binding}
 use Rattle.ql_expand.specs.Expands.{applied}
 use Rattle.ql_expand.specs.ExpandFault.{place_of}
-use Rattle.ql_expand.specs.Expansion.{expanded, body, in_turn, each, bind, binds, if_core, bounds_in, qlet_core, qlambda_core, throw_core, print_core, operands_core, folded, and_all, or_all, cond_core, let_star_core, nested, nil_core, with_two, either_core, one_bound}
+use Rattle.ql_expand.specs.Expansion.{expanded, body, in_turn, each, bind, binds, if_core, bounds_in, operands_core, folded, and_all, or_all, cond_core, let_star_core, nested, nil_core, with_two, either_core, one_bound}
 use Rattle.ql_expand.specs.View.{letters, binders_of, bound_of, bounds_of, core_of, cores_of}
 use Rattle.ql_expand.proofs.Builds.{on_core, on_bound, on_bounds, body_one, body_more, and_one, and_more, or_one, or_more, print_one, throw_two, if_two, if_more, if_three, operands_one, operands_more, qlet_is, qlambda_is, nested_one, nested_more, let_star_other, let_star_proper, cond_other, cond_empty, cond_alone, cond_body, clause_test, items_small, bind_value, bind_is, expanded_is}
 use Rattle.ql_expand.proofs.Loops.{each_after, each_done, turn_after, turn_done, binds_after, binds_done, front_is}
@@ -175,20 +175,20 @@ bounds_in-binds-requires t c =
     let names = c.args.self.now.names.now in
     (omega (arith, weight_proper (form_of names c.args.form.now) (forms_of names c.in-Some.items.now) (c.in-Some.ensures names)), tt)
 
-pub nested-returns-in-None : goal.nested-returns-in-None
-nested-returns-in-None t c =
+pub nested-returns-in_ok-bind-in-None : goal.nested-returns-in_ok-bind-in-None
+nested-returns-in_ok-bind-in-None t c =
     let names = c.args.self.now.names.now in
     let at = c.args.at.0 in
     let fs = forms_of names c.args.binds.now in
     let gs = forms_of names c.in-Some.others.now in
     let a = form_of names c.in-Some.bind.now in
-    let b = bound_of names c.in_ok-bind.bind in
+    let b = bound_of names c.in_ok-bind-in-None.bind in
     let x = core_of names c.args.body in
     on_core names c.binding_of_one.result (core at (binding (one_bound b.0 b.1) x)) (nested at fs x)
-    (nested_one at fs gs none a a c.in-Some.ensures b x c.in-None.ensures c.in_ok-bind.ensures) c.binding_of_one.ensures
+    (nested_one at fs gs none a a c.in-Some.ensures b x c.in-None.ensures c.in_ok-bind-in-None.ensures) c.binding_of_one.ensures
 
-pub nested-returns-in_ok-body-in-Some-split_first : goal.nested-returns-in_ok-body-in-Some-split_first
-nested-returns-in_ok-body-in-Some-split_first t c =
+pub nested-returns-in_ok-bind-in-Some-split_first : goal.nested-returns-in_ok-bind-in-Some-split_first
+nested-returns-in_ok-bind-in-Some-split_first t c =
     let names = c.args.self.now.names.now in
     let at = c.args.at.0 in
     let fs = forms_of names c.args.binds.now in
@@ -196,11 +196,12 @@ nested-returns-in_ok-body-in-Some-split_first t c =
     let hs = forms_of names c.in-Some-split_first.field-0.1.now in
     let a = form_of names c.in-Some.bind.now in
     let d = form_of names c.in-Some-split_first.field-0.0.now in
-    let b = bound_of names c.in_ok-bind.bind in
+    let b = bound_of names c.in_ok-bind-in-Some-split_first.bind in
     let x = core_of names c.args.body in
-    let y = core_of names c.in_ok-body-in-Some-split_first.body in
+    let y = core_of names c.in_ok-inner-in-Some-split_first-2.inner in
     on_core names c.binding_of_one-in-Some-split_first.result (core at (binding (one_bound b.0 b.1) y)) (nested at fs x)
-    (nested_more at fs gs hs a d c.in-Some.ensures b x y c.in-Some-split_first.ensures c.in_ok-bind.ensures c.in_ok-body-in-Some-split_first.ensures)
+    (nested_more at fs gs hs a d c.in-Some.ensures b x y c.in-Some-split_first.ensures c.in_ok-bind-in-Some-split_first.ensures
+    (ap (core_of names) c.in_ok-inner-in-Some-split_first-2.ensures ∙ c.in_ok-inner-in-Some-split_first.ensures))
     c.binding_of_one-in-Some-split_first.ensures
 
 pub let_star_core-returns-in-None : goal.let_star_core-returns-in-None
@@ -212,8 +213,8 @@ let_star_core-returns-in-None t c =
     let a = form_of names c.in-Some.binds.now in
     let bs = bounds_of names c.new.result in
     let y = core_of names c.in_ok-body.body in
-    on_core names c.binding.result (core at (binding bs y)) (let_star_core at fs)
-    (let_star_other at fs gs none a a c.in-Some.ensures y bs (c.in-None.ensures names) (ap (bounds_of names) c.new.ensures) c.in_ok-body.ensures) c.binding.ensures
+    c.binding.ensures
+    ∙ let_star_other at fs gs none a a c.in-Some.ensures y bs (c.in-None.ensures names) (ap (bounds_of names) c.new.ensures) c.in_ok-body.ensures
 
 pub let_star_core-returns-in-Some-proper_items : goal.let_star_core-returns-in-Some-proper_items
 let_star_core-returns-in-Some-proper_items t c =
@@ -247,9 +248,9 @@ qlet_core-returns t c =
     let x = core_of names c.in_ok-proposition.proposition in
     let bs = bounds_of names c.in_ok-binds.binds in
     let y = core_of names c.in_ok-body.body in
-    on_core names c.qlet.result (core at (qlet x bs y)) (qlet_core at fs)
-    (qlet_is at fs (forms_of names c.in-Some.others.now) (forms_of names c.in-Some-split_first.forms.now) (form_of names c.in-Some.proposition.now) (form_of names c.in-Some-split_first.binds.now)
-    c.in-Some.ensures x y bs c.in-Some-split_first.ensures c.in_ok-proposition.ensures c.in_ok-binds.ensures c.in_ok-body.ensures) c.qlet.ensures
+    c.qlet.ensures
+    ∙ qlet_is at fs (forms_of names c.in-Some.others.now) (forms_of names c.in-Some-split_first.forms.now) (form_of names c.in-Some.proposition.now) (form_of names c.in-Some-split_first.binds.now)
+    c.in-Some.ensures x y bs c.in-Some-split_first.ensures c.in_ok-proposition.ensures c.in_ok-binds.ensures c.in_ok-body.ensures
 
 pub qlambda_core-returns : goal.qlambda_core-returns
 qlambda_core-returns t c =
@@ -259,9 +260,9 @@ qlambda_core-returns t c =
     let x = core_of names c.in_ok-proposition.proposition in
     let ps = binders_of names c.in_ok-parameters.parameters in
     let y = core_of names c.in_ok-body.body in
-    on_core names c.qlambda.result (core at (qlambda x ps y)) (qlambda_core at fs)
-    (qlambda_is at fs (forms_of names c.in-Some.others.now) (forms_of names c.in-Some-split_first.forms.now) (form_of names c.in-Some.proposition.now) (form_of names c.in-Some-split_first.parameters.now)
-    c.in-Some.ensures x y ps c.in-Some-split_first.ensures c.in_ok-proposition.ensures c.in_ok-parameters.ensures c.in_ok-body.ensures) c.qlambda.ensures
+    c.qlambda.ensures
+    ∙ qlambda_is at fs (forms_of names c.in-Some.others.now) (forms_of names c.in-Some-split_first.forms.now) (form_of names c.in-Some.proposition.now) (form_of names c.in-Some-split_first.parameters.now)
+    c.in-Some.ensures x y ps c.in-Some-split_first.ensures c.in_ok-proposition.ensures c.in_ok-parameters.ensures c.in_ok-body.ensures
 
 -- ---- parts
 
@@ -279,8 +280,8 @@ if_core-returns-in-Some-split_first-2 t c =
     on_core names c.full_if_core.result (if_core at (more a (more b (more d rest)))) (if_core at fs)
     (if_more at fs gs hs a b c.in-Some.ensures d rest c.in-Some-split_first.ensures c.in-Some-split_first-2.ensures) c.full_if_core.ensures
 
-pub if_core-returns-in_ok-then-in-None : goal.if_core-returns-in_ok-then-in-None
-if_core-returns-in_ok-then-in-None t c =
+pub if_core-returns-in_ok-other-in-None : goal.if_core-returns-in_ok-other-in-None
+if_core-returns-in_ok-other-in-None t c =
     let names = c.args.self.now.names.now in
     let at = c.args.at.0 in
     let fs = forms_of names c.args.parts.now in
@@ -290,10 +291,9 @@ if_core-returns-in_ok-then-in-None t c =
     let b = form_of names c.in-Some-split_first.then.now in
     let x = core_of names c.in_ok-test-in-None.test in
     let y = core_of names c.in_ok-then-in-None.then in
-    let z = core_of names c.nil_core-in-None.result in
-    on_core names c.conditional.result (core at (conditional x y z)) (if_core at fs)
-    (if_two at fs gs hs a b c.in-Some.ensures x y z c.in-Some-split_first.ensures c.in-None.ensures c.in_ok-test-in-None.ensures c.in_ok-then-in-None.ensures c.nil_core-in-None.ensures)
+    let z = core_of names c.in_ok-other-in-None.other in
     c.conditional.ensures
+    ∙ if_two at fs gs hs a b c.in-Some.ensures x y z c.in-Some-split_first.ensures c.in-None.ensures c.in_ok-test-in-None.ensures c.in_ok-then-in-None.ensures c.in_ok-other-in-None.ensures
 
 pub full_if_core-returns-in_ok-other-in-None : goal.full_if_core-returns-in_ok-other-in-None
 full_if_core-returns-in_ok-other-in-None t c =
@@ -306,8 +306,8 @@ full_if_core-returns-in_ok-other-in-None t c =
     let x = core_of names c.in_ok-test-in-None.test in
     let y = core_of names c.in_ok-then-in-None.then in
     let z = core_of names c.in_ok-other-in-None.other in
-    on_core names c.conditional.result (core at (conditional x y z)) (if_core at (more a (more b (more d rest))))
-    (if_three at a b d rest x y z c.in-None.ensures c.in_ok-test-in-None.ensures c.in_ok-then-in-None.ensures c.in_ok-other-in-None.ensures) c.conditional.ensures
+    c.conditional.ensures
+    ∙ if_three at a b d rest x y z c.in-None.ensures c.in_ok-test-in-None.ensures c.in_ok-then-in-None.ensures c.in_ok-other-in-None.ensures
 
 pub throw_core-returns-in_ok-value-in-None : goal.throw_core-returns-in_ok-value-in-None
 throw_core-returns-in_ok-value-in-None t c =
@@ -320,8 +320,8 @@ throw_core-returns-in_ok-value-in-None t c =
     let b = form_of names c.in-Some-split_first.value.now in
     let x = core_of names c.in_ok-tag-in-None.tag in
     let y = core_of names c.in_ok-value-in-None.value in
-    on_core names c.throw.result (core at (throw x y)) (throw_core at fs)
-    (throw_two at fs gs hs a b c.in-Some.ensures x y c.in-Some-split_first.ensures c.in-None.ensures c.in_ok-tag-in-None.ensures c.in_ok-value-in-None.ensures) c.throw.ensures
+    c.throw.ensures
+    ∙ throw_two at fs gs hs a b c.in-Some.ensures x y c.in-Some-split_first.ensures c.in-None.ensures c.in_ok-tag-in-None.ensures c.in_ok-value-in-None.ensures
 
 pub print_core-returns-in_ok-value-in-None : goal.print_core-returns-in_ok-value-in-None
 print_core-returns-in_ok-value-in-None t c =
@@ -331,8 +331,8 @@ print_core-returns-in_ok-value-in-None t c =
     let gs = forms_of names c.in-Some.others.now in
     let a = form_of names c.in-Some.value.now in
     let x = core_of names c.in_ok-value-in-None.value in
-    on_core names c.print.result (core at (print x)) (print_core at fs)
-    (print_one at fs gs none a a c.in-Some.ensures x c.in-None.ensures c.in_ok-value-in-None.ensures) c.print.ensures
+    c.print.ensures
+    ∙ print_one at fs gs none a a c.in-Some.ensures x c.in-None.ensures c.in_ok-value-in-None.ensures
 
 -- ---- sugar
 
@@ -373,8 +373,8 @@ and_all-returns-in-None t c =
     on_core names c.expanded.result (expanded c.args.dropped a) (and_all c.args.dropped at fs)
     (and_one at fs gs none a a c.in-Some.ensures c.args.dropped c.in-None.ensures) c.expanded.ensures
 
-pub and_all-returns-in_ok-rest-in-Some-split_first : goal.and_all-returns-in_ok-rest-in-Some-split_first
-and_all-returns-in_ok-rest-in-Some-split_first t c =
+pub and_all-returns-in_ok-nil-in-Some-split_first : goal.and_all-returns-in_ok-nil-in-Some-split_first
+and_all-returns-in_ok-nil-in-Some-split_first t c =
     let names = c.args.self.now.names.now in
     let at = c.args.at.0 in
     let fs = forms_of names c.args.forms.now in
@@ -383,11 +383,11 @@ and_all-returns-in_ok-rest-in-Some-split_first t c =
     let a = form_of names c.in-Some.form.now in
     let b = form_of names c.in-Some-split_first.field-0.0.now in
     let x = core_of names c.in_ok-test-in-Some-split_first.test in
-    let y = core_of names c.in_ok-rest-in-Some-split_first.rest in
-    on_core names c.conditional.result (core at (conditional x y (core_of names c.nil_core.result))) (and_all c.args.dropped at fs)
-    (ap (λ z. core at (conditional x y z)) c.nil_core.ensures
-    ∙ and_more at fs gs hs a b c.in-Some.ensures c.args.dropped x y c.in-Some-split_first.ensures c.in_ok-test-in-Some-split_first.ensures c.in_ok-rest-in-Some-split_first.ensures)
+    let y = core_of names c.in_ok-rest-in-Some-split_first-2.rest in
     c.conditional.ensures
+    ∙ ap (λ z. core at (conditional x y z)) c.in_ok-nil-in-Some-split_first.ensures
+    ∙ and_more at fs gs hs a b c.in-Some.ensures c.args.dropped x y c.in-Some-split_first.ensures c.in_ok-test-in-Some-split_first.ensures
+    (ap (core_of names) c.in_ok-rest-in-Some-split_first-2.ensures ∙ c.in_ok-rest-in-Some-split_first.ensures)
 
 pub or_all-returns-in-None : goal.or_all-returns-in-None
 or_all-returns-in-None t c =
@@ -399,8 +399,8 @@ or_all-returns-in-None t c =
     on_core names c.expanded.result (expanded c.args.dropped a) (or_all c.args.dropped at fs)
     (or_one at fs gs none a a c.in-Some.ensures c.args.dropped c.in-None.ensures) c.expanded.ensures
 
-pub or_all-returns-in_ok-rest-in-Some-split_first : goal.or_all-returns-in_ok-rest-in-Some-split_first
-or_all-returns-in_ok-rest-in-Some-split_first t c =
+pub or_all-returns-in_ok-first-in-Some-split_first : goal.or_all-returns-in_ok-first-in-Some-split_first
+or_all-returns-in_ok-first-in-Some-split_first t c =
     let names = c.args.self.now.names.now in
     let at = c.args.at.0 in
     let fs = forms_of names c.args.forms.now in
@@ -409,23 +409,25 @@ or_all-returns-in_ok-rest-in-Some-split_first t c =
     let a = form_of names c.in-Some.form.now in
     let b = form_of names c.in-Some-split_first.field-0.0.now in
     let x = core_of names c.in_ok-first-in-Some-split_first.first in
-    let y = core_of names c.in_ok-rest-in-Some-split_first.rest in
+    let y = core_of names c.in_ok-rest-in-Some-split_first-2.rest in
     on_core names c.either_core.result (either_core at x y) (or_all c.args.dropped at fs)
-    (or_more at fs gs hs a b c.in-Some.ensures c.args.dropped x y c.in-Some-split_first.ensures c.in_ok-first-in-Some-split_first.ensures c.in_ok-rest-in-Some-split_first.ensures)
+    (or_more at fs gs hs a b c.in-Some.ensures c.args.dropped x y c.in-Some-split_first.ensures c.in_ok-first-in-Some-split_first.ensures
+    (ap (core_of names) c.in_ok-rest-in-Some-split_first-2.ensures ∙ c.in_ok-rest-in-Some-split_first.ensures))
     c.either_core.ensures
 
-pub cond_core-returns-in-None : goal.cond_core-returns-in-None
-cond_core-returns-in-None t c =
+pub cond_core-returns-in_ok-test-in-None : goal.cond_core-returns-in_ok-test-in-None
+cond_core-returns-in_ok-test-in-None t c =
     let names = c.args.self.now.names.now in
     let at = c.args.at.0 in
     let fs = forms_of names c.args.clauses.now in
     let gs = forms_of names c.in-Some.others.now in
     let a = form_of names c.in-Some.clause.now in
-    let x = core_of names c.in_ok-test.test in
-    let y = core_of names c.in_ok-rest.rest in
+    let x = core_of names c.in_ok-test-in-None.test in
+    let y = core_of names c.in_ok-rest-2.rest in
     on_core names c.either_core.result (either_core at x y) (cond_core at fs)
     (cond_alone at fs gs none a a c.in-Some.ensures (forms_of names c.in-Some-proper_items.items.now) (forms_of names c.in-Some-split_first.forms.now) (form_of names c.in-Some-split_first.test.now)
-    x y (c.in-Some-proper_items.ensures names) c.in-Some-split_first.ensures c.in-None.ensures c.in_ok-test.ensures c.in_ok-rest.ensures) c.either_core.ensures
+    x y (c.in-Some-proper_items.ensures names) c.in-Some-split_first.ensures c.in-None.ensures c.in_ok-test-in-None.ensures
+    (ap (core_of names) c.in_ok-rest-2.ensures ∙ c.in_ok-rest.ensures)) c.either_core.ensures
 
 pub cond_core-returns-in_ok-body-in-Some-split_first-2 : goal.cond_core-returns-in_ok-body-in-Some-split_first-2
 cond_core-returns-in_ok-body-in-Some-split_first-2 t c =
@@ -434,14 +436,13 @@ cond_core-returns-in_ok-body-in-Some-split_first-2 t c =
     let fs = forms_of names c.args.clauses.now in
     let gs = forms_of names c.in-Some.others.now in
     let a = form_of names c.in-Some.clause.now in
-    let x = core_of names c.in_ok-test.test in
-    let y = core_of names c.in_ok-rest.rest in
+    let x = core_of names c.in_ok-test-in-Some-split_first-2.test in
+    let y = core_of names c.in_ok-rest-2.rest in
     let z = core_of names c.in_ok-body-in-Some-split_first-2.body in
-    on_core names c.conditional.result (core at (conditional x z y)) (cond_core at fs)
-    (cond_body at fs gs none a a c.in-Some.ensures (forms_of names c.in-Some-proper_items.items.now) (forms_of names c.in-Some-split_first.forms.now)
-    (forms_of names c.in-Some-split_first-2.field-0.1.now) (form_of names c.in-Some-split_first.test.now) (form_of names c.in-Some-split_first-2.field-0.0.now) x y z
-    (c.in-Some-proper_items.ensures names) c.in-Some-split_first.ensures c.in-Some-split_first-2.ensures c.in_ok-test.ensures c.in_ok-body-in-Some-split_first-2.ensures c.in_ok-rest.ensures)
     c.conditional.ensures
+    ∙ cond_body at fs gs none a a c.in-Some.ensures (forms_of names c.in-Some-proper_items.items.now) (forms_of names c.in-Some-split_first.forms.now)
+    (forms_of names c.in-Some-split_first-2.field-0.1.now) (form_of names c.in-Some-split_first.test.now) (form_of names c.in-Some-split_first-2.field-0.0.now) x y z
+    (c.in-Some-proper_items.ensures names) c.in-Some-split_first.ensures c.in-Some-split_first-2.ensures c.in_ok-test-in-Some-split_first-2.ensures c.in_ok-body-in-Some-split_first-2.ensures (ap (core_of names) c.in_ok-rest-2.ensures ∙ c.in_ok-rest.ensures)
 
 pub cond_core-returns-in_default-proper_items : goal.cond_core-returns-in_default-proper_items
 cond_core-returns-in_default-proper_items t c =
@@ -471,8 +472,21 @@ cond_core-expanded-requires t c =
       tt,
     )
 
-pub cond_core-body-requires : goal.cond_core-body-requires
-cond_core-body-requires t c =
+pub cond_core-boxed-requires : goal.cond_core-boxed-requires
+cond_core-boxed-requires t c =
+    let names = c.args.self.now.names.now in
+    let a = form_of names c.in-Some.clause.now in (
+      omega (
+        arith,
+        clause_test 0 (forms_of names c.args.clauses.now) (forms_of names c.in-Some.others.now) none a a c.in-Some.ensures
+            (forms_of names c.in-Some-proper_items.items.now) (forms_of names c.in-Some-split_first.forms.now) (form_of names c.in-Some-split_first.test.now)
+            (c.in-Some-proper_items.ensures names) c.in-Some-split_first.ensures,
+      ),
+      tt,
+    )
+
+pub cond_core-boxed_body-requires : goal.cond_core-boxed_body-requires
+cond_core-boxed_body-requires t c =
     let names = c.args.self.now.names.now in
     let a = form_of names c.in-Some.clause.now in (
       omega (

@@ -21,6 +21,9 @@ invariant-binds-loop-form l =
 abbrev pub decreases-expanded : goal.decreases-expanded
 decreases-expanded l = 8 * weight (form_of l.self.now.names.now l.form.now) + 7
 
+abbrev pub decreases-boxed : goal.decreases-boxed
+decreases-boxed l = 8 * weight (form_of l.self.now.names.now l.form.now) + 8
+
 abbrev pub decreases-bind : goal.decreases-bind
 decreases-bind l = 8 * weight (form_of l.self.now.names.now l.form.now) + 7
 
@@ -38,6 +41,9 @@ decreases-primitive_core l = 8 * weights (forms_of l.self.now.names.now l.parts.
 
 abbrev pub decreases-body : goal.decreases-body
 decreases-body l = 8 * weights (forms_of l.self.now.names.now l.forms.now) + 4
+
+abbrev pub decreases-boxed_body : goal.decreases-boxed_body
+decreases-boxed_body l = 8 * weights (forms_of l.self.now.names.now l.forms.now) + 5
 
 abbrev pub decreases-in_turn : goal.decreases-in_turn
 decreases-in_turn l = 8 * weights (forms_of l.self.now.names.now l.forms.now) + 3

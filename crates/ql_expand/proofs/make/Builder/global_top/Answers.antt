@@ -11,5 +11,5 @@ returns c =
     let names = c.args.self.now.names.now in
     let f = form_of names c.args.form.now in
     global_named (place_of f) c.offset_of.result.0 (forms_of names c.args.parts.now) c.in-Some.symbol.at.0 (letters names c.in-Some.symbol.number)
-    (form_of names c.in-Some.value.now) (expanded false f) (core_of names c.in_ok-value.value) (core_of names c.in_ok-core.core)
-    c.in-Some.ensures c.in_ok-value.ensures c.in_ok-core.ensures (c.offset_of.ensures names)
+    (form_of names c.in-Some.value.now) (expanded false f) (core_of names c.in_ok-value.value) (core_of names c.defvar-core.result)
+    c.in-Some.ensures c.in_ok-value.ensures c.defvar-core.ensures (c.offset_of.ensures names)
