@@ -18,7 +18,7 @@ MIB = 1 << 20
 MOST_GROWTH = 2.3
 # bytes of memory at the peak for each byte of the source
 MOST_BYTES = {"run": 200, "show": 200, "check": 400}
-RUNS = 5
+RUNS = 20
 
 
 def spread_prints(size, lines):
@@ -146,19 +146,20 @@ SOURCES = [
 ]
 
 
-def measure(command, path):
-    """The least time of some runs, in seconds, and the greatest peak memory, in bytes."""
-    best, peak = None, 0
+def measure(command, paths):
+    """Of each source, the least time of some runs, in seconds, and the greatest peak memory, in bytes. The sources
+    take turns, so that what else the machine does falls on all of them."""
+    best, peak = [float("inf")] * len(paths), [0] * len(paths)
     for _ in range(RUNS):
-        with open(path, "rb") as source, open(os.devnull, "wb") as sink:
-            start = time.perf_counter()
-            child = subprocess.Popen(command, stdin=source, stdout=sink)
-            _, status, usage = os.wait4(child.pid, 0)
-            took = time.perf_counter() - start
-        if status != 0:
-            sys.exit("%s ended with %d on %s" % (command, status, path))
-        best = took if best is None else min(best, took)
-        peak = max(peak, usage.ru_maxrss * 1024)
+        for i, path in enumerate(paths):
+            with open(path, "rb") as source, open(os.devnull, "wb") as sink:
+                start = time.perf_counter()
+                child = subprocess.Popen(command, stdin=source, stdout=sink)
+                _, status, usage = os.wait4(child.pid, 0)
+                took = time.perf_counter() - start
+            if status != 0:
+                sys.exit("%s ended with %d on %s" % (command, status, path))
+            best[i], peak[i] = min(best[i], took), max(peak[i], usage.ru_maxrss * 1024)
     return best, peak
 
 
@@ -182,14 +183,14 @@ def main():
     print("%-5s %-30s %9s %9s %7s %8s %10s %10s" % ("", "source", "bytes", "seconds", "growth", "MB/s", "peak/byte", "clisp MB/s"))
     with tempfile.TemporaryDirectory() as folder:
         for command, name, make in SOURCES:
-            times = []
+            paths = []
             for half in (1, 0):
                 text = make(half)
-                path = os.path.join(folder, "source")
-                with open(path, "wb") as file:
+                paths.append(os.path.join(folder, "source-%d" % half))
+                with open(paths[-1], "wb") as file:
                     file.write(text)
-                times.append(measure([built, "-", "-", command], path))
-            (less, _), (took, peak) = times
+            path = paths[-1]
+            (less, took), (_, peak) = measure([built, "-", "-", command], paths)
             growth, speed, weight = took / less, len(text) / took / 1e6, peak / len(text)
             other = ""
             if command == "show" and lisp:
