@@ -15,7 +15,7 @@ mutual
   pub data Core : Type 0 where
     core : (at : ℕ) → Node → Core
 
-  -- The second number of a node is the offset of the name before it.
+  -- The number after a name is the offset of that name.
   pub data Node : Type 0 where
     constant : Form → Node
     variable : Name → Node

@@ -24,7 +24,7 @@ abbrev pub count : Forms → ℕ
 count none = 0
 count (more f fs) = count fs + 1
 
--- The list at this offset has a wrong shape.
+-- What stands at this offset has a wrong shape.
 abbrev pub misshapen : ℕ → List Fault
 misshapen at = bad_shape at ∷ []
 

@@ -1,5 +1,5 @@
 -- The core that the expander builds: of each form just one. Of a form at fault it builds some core too, of which nothing
--- is said anywhere. That it is what the form expands to is a law.
+-- is said anywhere. That a form without a fault expands to it is proved in `proofs/Exists`.
 use Rattle.std.specs.Prelude.{ℕ, Bool, true, false, if◌then◌else◌, List, [], ◌∷◌, Option, Some, None, codes}
 use Rattle.ql_forms.specs.Form.{Form, Forms, none, more, atom, list, proper, integer, symbol}
 use Rattle.ql_expand.specs.Core.{named, hidden, Binder, binder, Core, core, Cores, no_cores, and_core, Bounds, no_bounds, and_bound, constant, variable, setq, conditional, progn, binding, primitive, print, call, funcall, lambda, qlet, qlambda, catch, qcatch, throw, protect, defvar, Function, function, Program, program}

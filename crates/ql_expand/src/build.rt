@@ -35,7 +35,7 @@ impl<'a> Builder<'a> {
         }
     }
 
-    // The same, boxed, of a form whose value is used.
+    /// The core of a form whose value is used, boxed.
     #[cycle(build)]
     pub fn boxed(&self, form: &Form) -> Result<Boxed<Core>, AllocError>
         ensures { IfOk result (λ c. core_of self.now.names.now c ≡ expanded false (form_of self.now.names.now form.now)) }
@@ -91,7 +91,7 @@ impl<'a> Builder<'a> {
         }
     }
 
-    // Of the forms of a progn or of a body.
+    /// The core of the forms of a progn or of a body.
     #[cycle(build)]
     pub fn body(&self, at: Offset, forms: &[Form]) -> Result<Core, AllocError>
         ensures { IfOk result (λ c. core_of self.now.names.now c ≡ body at.0 (forms_of self.now.names.now forms.now)) }

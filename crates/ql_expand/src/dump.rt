@@ -64,8 +64,9 @@ fn put_variable(
 ) -> Result<(), AllocError> {
     match name {
         VarName::Sym(number) => put_symbol(alloc, to, names, number, at),
-        VarName::Hidden(_) => {
-            to.push(b'?')?;
+        VarName::Hidden(number) => {
+            // The rows have `?` alone, so another number than 0 is seen.
+            to.push(if number == 0 { b'?' } else { b'!' })?;
             put_at(alloc, to, at)
         }
     }

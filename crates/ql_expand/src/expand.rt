@@ -1,4 +1,4 @@
-//! What is refused of the forms of a source.
+//! The calls that check the forms of a source, and expand them.
 
 ghost use Rattle.std.specs.Prelude.{◌≡◌, ℕ, IfOk, length};
 ghost use Rattle.ql_forms.specs.View.{forms_of};
@@ -19,8 +19,9 @@ use thiserror::Error;
 #[derive(Clone, Copy, Debug, PartialEq, Eq, Error)]
 pub enum ExpandRefusal {
     /// A form is at fault. The kinds: 9 a form that fits no shape or stands deeper than 400 levels,
-    /// 10 a `defun` or `defvar` that is no top form, 11 a reserved word in place of a name. `at` is
-    /// the least offset of a fault, and `kind` the lowest one there.
+    /// 10 a `defun` or `defvar` that is no top form, 11 `nil` or `t` as the name of a variable, or a
+    /// reserved word but `eager` as that of a function. `at` is the least offset of a fault, and
+    /// `kind` the lowest one there.
     #[error("a form is at fault at byte {at} (kind {kind})")]
     Bad { kind: u8, at: u64 },
     /// There was no memory.

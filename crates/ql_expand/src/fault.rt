@@ -43,7 +43,7 @@ pub fn bad_shape(at: Offset) -> Option<Fault>
     })
 }
 
-/// The form stands among the top forms alone.
+/// The form is a definition, and no top form.
 pub fn bad_top(at: Offset) -> Option<Fault>
     ensures { result ≡ Some (bad_top at.0) }
 {

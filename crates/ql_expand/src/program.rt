@@ -10,7 +10,7 @@ pub enum VarName {
     /// The number of a symbol.
     Sym(u32),
     /// A variable that sugar adds, which no source can name. Each use stands in the `if` directly
-    /// under its own binder.
+    /// under its own binder, so all have the number 0.
     Hidden(u32),
 }
 
@@ -134,6 +134,6 @@ pub struct Program {
     pub globals: Items<u32>,
     /// The top forms but for the functions.
     pub body: Items<Core>,
-    /// How many names the source has.
+    /// How many names the source's table has, the reserved words among them.
     pub names: u32,
 }

@@ -10,12 +10,13 @@ pub fn spelled_forms_can_be_spelled()
     ensures { (b : List ℕ) (fs : Forms) → Spells b fs → AllCanBeSpelled 0 fs }
 {}
 
-/// The text of a form spells that form again, at other places.
+/// The text of a form that can be spelled spells that form again, at other places.
 pub fn written_form_reads_back()
     ensures { (f : Form) → CanBeSpelled 0 f → (g : Form) × (Spells (form_text f) (more g none)) × (without_places g ≡ without_places f) }
 {}
 
-/// The texts of forms, a line for each, spell those forms again, in order and at other places.
+/// The texts of forms that can be spelled, a line for each, spell those forms again, in order and at
+/// other places.
 pub fn forms_written_read_back()
     ensures { (fs : Forms) → AllCanBeSpelled 0 fs → (gs : Forms) × (Spells (forms_text fs) gs) × (all_without_places gs ≡ all_without_places fs) }
 {}

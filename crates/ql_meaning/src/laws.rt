@@ -7,7 +7,7 @@ ghost use Rattle.ql_meaning.specs.Meaning.{program_told};
 ghost use Rattle.ql_meaning.specs.Run.{Story};
 ghost use Rattle.ql_meaning.specs.World.{turns};
 
-/// A program's run has just one whole schedule.
+/// A program's run has at most one whole schedule.
 pub fn one_schedule()
     ensures { (program : List Core) (limits : Limits) (s t : List ℕ) (x y : Story) → program_told program limits s ≡ Some x
         → program_told program limits t ≡ Some y → s ≡ t }

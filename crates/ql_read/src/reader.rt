@@ -18,11 +18,11 @@ use thiserror::Error;
 #[derive(Clone, Copy, Debug, PartialEq, Eq, Error)]
 pub enum ReadRefusal {
     /// The text is at fault. The kinds: 1 a byte that stands only in comments, 2 a closing
-    /// parenthesis with no list open, 3 a dot where none may stand or after which something is
-    /// missing or too much, 4 a number that goes on with a byte that is no digit or beyond 64 bits,
-    /// 5 a name of more than 64 bytes, 6 more than 200 levels, 7 a text of more than 1,048,576
-    /// bytes, 8 a text that ends too early. `at` is the offset of the first byte at fault; for 7 it
-    /// is 1,048,576, and for 8 the length of the text.
+    /// parenthesis with no list open or where a quote mark awaits its form, 3 a dot where none may
+    /// stand or after which something is missing or too much, 4 a number that goes on with a byte
+    /// that is no digit or beyond 64 bits, 5 a name of more than 64 bytes, 6 more than 200 levels,
+    /// 7 a text of more than 1,048,576 bytes, 8 a text that ends too early. `at` is the offset of
+    /// the first byte at fault; for 7 it is 1,048,576, and for 8 the length of the text.
     #[error("the text is at fault at byte {at} (kind {kind})")]
     Bad { kind: u8, at: u64 },
     /// There was no memory.

@@ -80,10 +80,10 @@ abbrev pub twice_faults : List (List ℕ) → ℕ → List ℕ → List Fault
 twice_faults before at w = where_true (is_among w before) (fault Twice at)
 
 -- the one after so many others of its list
-abbrev pub number_faults : ℕ → ℕ → List Fault
-number_faults count at = where_true (count == most) (fault TooMany at)
+abbrev pub seventeenth_faults : ℕ → ℕ → List Fault
+seventeenth_faults count at = where_true (count == most) (fault TooMany at)
 
--- what a binder is called, with these names before it in its list
+-- what is wrong with the name of a binder, with these names before it in its list
 abbrev pub called_faults : (globals before : List (List ℕ)) → Binder → List Fault
 called_faults globals before (binder at hidden) = []
 called_faults globals before (binder at (named w)) = twice_faults before at w ++ where_true (is_among w globals) (fault Shadow at)
@@ -93,7 +93,7 @@ offset_of (binder at v) = at
 
 -- a binder with these names and so many binders before it in its list
 abbrev pub binder_faults : (globals before : List (List ℕ)) → ℕ → Binder → List Fault
-binder_faults globals before count b = number_faults count (offset_of b) ++ called_faults globals before b
+binder_faults globals before count b = seventeenth_faults count (offset_of b) ++ called_faults globals before b
 
 -- the binders of one list, with these names and so many binders before them
 abbrev pub binders_faults : (globals before : List (List ℕ)) → ℕ → List Binder → List Fault
@@ -124,8 +124,9 @@ abbrev pub count_of : Cores → ℕ
 count_of no_cores = 0
 count_of (and_core c cs) = count_of cs + 1
 
-abbrev pub place_of : Core → ℕ
-place_of (core at n) = at
+-- the offset of a core
+abbrev pub core_at : Core → ℕ
+core_at (core at n) = at
 
 abbrev mutual
   -- all that is wrong in a core at this place
@@ -159,7 +160,7 @@ abbrev mutual
   -- the arguments of `funcall`, with so many before them
   pub arguments_faults : Place → ℕ → Cores → List Fault
   arguments_faults p count no_cores = []
-  arguments_faults p count (and_core c cs) = number_faults count (place_of c) ++ (core_faults p c ++ arguments_faults p (count + 1) cs)
+  arguments_faults p count (and_core c cs) = seventeenth_faults count (core_at c) ++ (core_faults p c ++ arguments_faults p (count + 1) cs)
 
   -- the values of bindings, which don't see the variables
   pub values_faults : Place → Bounds → List Fault
@@ -193,7 +194,7 @@ abbrev pub functions_faults : Place → List Function → List Fault
 functions_faults p [] = []
 functions_faults p (f ∷ fs) = function_faults p f ++ functions_faults p fs
 
--- what the top forms and the functions of a program see
+-- what the top forms and the functions of a program see; the globals are the names of its `defvar` forms
 abbrev pub top : List Function → List (List ℕ) → Place
 top fs globals = record { functions = map head_of fs; globals = globals; variables = []; cleanup = false }
 

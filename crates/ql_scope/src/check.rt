@@ -5,6 +5,7 @@ ghost use Rattle.ql_base.specs.Names.{AreDistinct};
 ghost use Rattle.ql_expand.specs.View.{program_of};
 ghost use Rattle.ql_scope.specs.Fault.{least};
 ghost use Rattle.ql_scope.specs.Scope.{program_faults, scope_fault};
+ghost use Rattle.ql_scope.specs.Scoped.{IsExpanded};
 ghost use Rattle.ql_scope.specs.ScopedIn.{IsScopedIn};
 ghost use Rattle.ql_scope.specs.declared.check.ScopeRefusal.TheVariants.{Bad};
 
@@ -24,7 +25,8 @@ pub enum ScopeRefusal {
     /// The program is at fault. The kinds: 12 a variable that nothing binds, 13 a call of a function
     /// that isn't there, 14 a name that is given twice, 15 a call with a wrong number of arguments,
     /// 16 a form that can't stand in a cleanup, 17 a parameter or binding with the name of a global,
-    /// 18 a 17th parameter, binding or argument of `funcall`. `at` is its offset.
+    /// 18 a 17th parameter, binding or argument of `funcall`. `at` is the least offset of a fault,
+    /// and `kind` the lowest one there.
     #[error("the program is at fault at byte {at} (kind {kind})")]
     Bad { kind: u8, at: u64 },
     /// There was no memory.
@@ -32,9 +34,11 @@ pub enum ScopeRefusal {
     Memory(AllocError),
 }
 
-/// Checks a program, whose names are in this table. Of its faults the first one is answered. A number
-/// that the table lacks is answered as want of memory.
+/// Checks a program that forms expand to, with its table of names. Of its faults the first one is
+/// answered. A variable, function or global whose number the table lacks is answered as want of
+/// memory.
 pub fn check(alloc: Global, names: &Names, program: Program) -> Result<Scoped, ScopeRefusal>
+    requires expanded { IsExpanded names.now program }
     ensures ok { IfOk result (λ scoped. scoped.program ≡ program) }
     ensures in_scope { IfOk result (λ scoped. IsScopedIn names.now scoped) }
     ensures bad { (kind at : ℕ) → result ≡ Err (Bad kind at) → scope_fault (program_of names.now program) ≡ Some (at, kind) }

@@ -6,6 +6,8 @@ mod parts;
 mod texts;
 mod variables;
 
+ghost use Rattle.ql_scope.specs.Scoped.{IsExpanded};
+
 use crate::check::{ScopeRefusal, check};
 use crate::slow::faults::slow_fault;
 use crate::slow::texts::Writer;
@@ -38,7 +40,9 @@ fn agree(
     text: &Text,
     program: Program,
     fault: Option<(u64, u8)>,
-) -> Result<bool, AllocError> {
+) -> Result<bool, AllocError>
+    requires expanded { IsExpanded text.now.names program }
+{
     let variables = slow_variables(alloc, &program)?;
     let scoped = match check(alloc, &text.names, program) {
         Ok(scoped) => scoped,

@@ -216,7 +216,7 @@ fn finds_binders_with_the_name_of_a_global(rt: HostRuntime) -> Result<(), AllocE
 
 #[test]
 fn finds_more_than_a_list_can_have(rt: HostRuntime) -> Result<(), AllocError> {
-    let texts: [(&[u8], u64); 8] = [
+    let texts: [(&[u8], u64); 9] = [
         (b"(defun f (a b c d e f g h i j k l m n o p q) 1)", 42),
         (b"(lambda (a b c d e f g h i j k l m n o p q r) 1)", 41),
         (b"(qlambda 1 (a b c d e f g h i j k l m n o p q) 1)", 44),
@@ -225,6 +225,7 @@ fn finds_more_than_a_list_can_have(rt: HostRuntime) -> Result<(), AllocError> {
         (b"(qlet 1 (a b c d e f g h i j k l m n o p q) 1)", 41),
         (b"(funcall 1 1 1 1 1 1 1 1 1 1 1 1 1 1 1 1 1 1)", 43),
         (b"(funcall 1 1 1 1 1 1 1 1 1 1 1 1 1 1 1 1 1 1 1)", 43),
+        (b"(funcall 1 1 1 1 1 1 1 1 1 1 1 1 1 1 1 1 1 (progn 1))", 50),
     ];
     for (text, at) in texts {
         assert!(rt; refusal(rt.alloc(), text)? == Some((at, 18)));

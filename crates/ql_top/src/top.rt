@@ -46,7 +46,8 @@ mod tests;
 /// where not all went well.
 ///
 /// It always returns. A source of unknown bytes, as a file is, is read and run all the same: what is
-/// known of the answer then are its causes, in the counts of faults.
+/// known of the answer then are its causes, in the counts of faults. `book` is for a journal to run
+/// along; no command reads one yet.
 pub fn one<S: Source, B: Source, O: Sink, J: Sink, E: Sink>(
     alloc: Global,
     words: &[&str],
@@ -59,9 +60,10 @@ pub fn one<S: Source, B: Source, O: Sink, J: Sink, E: Sink>(
     // The words ask for nothing exactly where that is the answer.
     ensures words { (result ≡ Status.Words) ↔ (asked (texts_of words.now) ≡ None) }
 
-    // The source is refused at its first place outside the language. Else a check says so, a show
-    // writes the forms, and of a run output, journal and status are those of the meaning's run along
-    // the schedule that the journal itself spells.
+    // The source is refused for the first fault of its text, or else of its forms, or else of its
+    // names. Else a check says that it is a program, a show writes the forms, and of a run output,
+    // journal and status are those of the meaning's run along the schedule that the journal itself
+    // spells.
     ensures answer { (bytes : List ℕ) (command : Command) → S.left source.old ≡ Some bytes → asked (texts_of words.now) ≡ Some command
         → Answers command result bytes (S.left source.new) (O.held out.old) (O.held out.new) (J.held journal.old) (J.held journal.new) }
 

@@ -1,7 +1,7 @@
 use Rattle.std.proofs.Common.{◌++◌, drop, true, ◌∙◌, ◌+◌, ◌<◌, ap, sym, refl, arith, length, append_assoc}
 use Rattle.ql_expand.specs.View.{core_of, node_of, cores_of, bounds_of, binders_of, name_of, letters}
 use Rattle.ql_scope.specs.Fault.{first_of}
-use Rattle.ql_scope.specs.Scope.{node_faults, core_faults, cores_faults, arguments_faults, values_faults, cleanup_faults, number_faults, place_of, use_faults, count_faults, list_faults, under, count_of, parameter_count, binders_in}
+use Rattle.ql_scope.specs.Scope.{node_faults, core_faults, cores_faults, arguments_faults, values_faults, cleanup_faults, seventeenth_faults, core_at, use_faults, count_faults, list_faults, under, count_of, parameter_count, binders_in}
 use Rattle.ql_scope.specs.Checking.{place_in}
 use Rattle.ql_scope.proofs.Found.{once_more, and_then, loop_step, drop_is, append_is}
 use Rattle.ql_scope.proofs.Opened.{opened, bound_opened, setq_is, if_is, let_is, call_is, funcall_is, qlet_is, qlambda_is, catch_is, qcatch_is, throw_is, protect_is}
@@ -121,13 +121,13 @@ arguments-loop-i-preserved g c =
     let here = drop_is cs i x at c.index-cores-i.is in
     let rest = arguments_faults (place_in c.args.self.now.around c.args.cleanup) (i + 1) (cores_of c.args.self.now.around.names (drop (i + 1) cs)) in
     let both = and_then c.args.self.now.around c.find_if.new.self.around c.loop-i.self.first c.find_if.new.self.first c.core.new.self.first
-    (number_faults i x.at.0) (λ y. core_faults (place_in y c.args.cleanup) (core_of y.names x))
+    (seventeenth_faults i x.at.0) (λ y. core_faults (place_in y c.args.cleanup) (core_of y.names x))
     (c.find_if.ensures.around ∙ c.loop-i.invariant.0) c.find_if.ensures.first c.in_ok-core.ensures.first in (
       c.in_ok-core.ensures.around ∙ (c.find_if.ensures.around ∙ c.loop-i.invariant.0),
-      loop_step c.args.self.now.around c.args.self.now.around c.loop-i.self.first c.core.new.self.first _ (λ y. number_faults i x.at.0 ++ core_faults (place_in y c.args.cleanup) (core_of y.names x))
+      loop_step c.args.self.now.around c.args.self.now.around c.loop-i.self.first c.core.new.self.first _ (λ y. seventeenth_faults i x.at.0 ++ core_faults (place_in y c.args.cleanup) (core_of y.names x))
           (arguments_faults (place_in c.args.self.now.around c.args.cleanup) (i + 1) (cores_of c.args.self.now.around.names (drop (i + 1) cs)))
           refl both
-          (ap (first_of c.loop-i.self.first) (append_is (number_faults i x.at.0) (core_faults (place_in c.args.self.now.around c.args.cleanup) (core_of c.args.self.now.around.names x)) (arguments_faults (place_in c.args.self.now.around c.args.cleanup) (i + 1) (cores_of c.args.self.now.around.names (drop (i + 1) cs))))
-          ∙ (ap (λ k. first_of c.loop-i.self.first (number_faults i (place_of k) ++ (core_faults (place_in c.args.self.now.around c.args.cleanup) (core_of c.args.self.now.around.names x) ++ arguments_faults (place_in c.args.self.now.around c.args.cleanup) (i + 1) (cores_of c.args.self.now.around.names (drop (i + 1) cs))))) (sym (opened c.args.self.now.around.names x))
+          (ap (first_of c.loop-i.self.first) (append_is (seventeenth_faults i x.at.0) (core_faults (place_in c.args.self.now.around c.args.cleanup) (core_of c.args.self.now.around.names x)) (arguments_faults (place_in c.args.self.now.around c.args.cleanup) (i + 1) (cores_of c.args.self.now.around.names (drop (i + 1) cs))))
+          ∙ (ap (λ k. first_of c.loop-i.self.first (seventeenth_faults i (core_at k) ++ (core_faults (place_in c.args.self.now.around c.args.cleanup) (core_of c.args.self.now.around.names x) ++ arguments_faults (place_in c.args.self.now.around c.args.cleanup) (i + 1) (cores_of c.args.self.now.around.names (drop (i + 1) cs))))) (sym (opened c.args.self.now.around.names x))
           ∙ (ap (λ ys. first_of c.loop-i.self.first (arguments_faults (place_in c.args.self.now.around c.args.cleanup) i (cores_of c.args.self.now.around.names ys))) (sym here) ∙ c.loop-i.invariant.1))),
     )
