@@ -151,7 +151,7 @@ empty_clause at (list p (more c gs) proper) fs e = cc
 empty_clause at (list p gs (dotted a)) fs e = cc
 empty_clause at (atom p a) fs e = refl
 
-pub no_bind : (f : Form) → symbol_in f ≡ None → operation_in f ≡ None → bind f ≡ (binder 0 hidden, nil_core 0)
+pub no_bind : (f : Form) → symbol_in f ≡ None → operation_in f ≡ None → bind f ≡ (binder 0 (hidden 0), nil_core 0)
 no_bind (atom p (symbol u)) e k = cc
 no_bind (atom p (integer z)) e k = refl
 no_bind (list p none t) e k = refl

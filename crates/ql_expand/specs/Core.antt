@@ -2,10 +2,11 @@
 use Rattle.std.specs.Prelude.{ℕ, Bool, List}
 use Rattle.ql_forms.specs.Form.{Form}
 
--- a variable: one that the source names, or one that sugar adds and no source can name
+-- A variable: one that the source names, or one that sugar adds and no source can name. All that sugar adds have the
+-- number 0.
 pub data Name : Type 0 where
   named : (letters : List ℕ) → Name
-  hidden : Name
+  hidden : (number : ℕ) → Name
 
 -- a parameter, or the variable of a binding, with the offset of its symbol
 pub data Binder : Type 0 where

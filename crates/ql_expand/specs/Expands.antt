@@ -117,8 +117,8 @@ mutual
     -- (or a b ..) is (let ((h a)) (if h h (or b ..)))
     or_more : {d : Bool} {at o : ℕ} {w : List ℕ} {a b : Form} {fs : Forms} {c e : Core} → operator_of w ≡ Or
         → Expands false a c → Expands false (added at (codes "or") (more b fs)) e
-        → Expands d (applied at o w (more a (more b fs))) (core at (binding (and_bound (binder at hidden) c no_bounds)
-        (core at (conditional (core at (variable hidden)) (core at (variable hidden)) e))))
+        → Expands d (applied at o w (more a (more b fs))) (core at (binding (and_bound (binder at (hidden 0)) c no_bounds)
+        (core at (conditional (core at (variable (hidden 0))) (core at (variable (hidden 0))) e))))
     number : {d : Bool} {at : ℕ} {z : _} → Expands d (atom at (integer z)) (core at (constant (atom at (integer z))))
     constant_word : {d : Bool} {at : ℕ} {w : List ℕ} → is_constant (operator_of w) ≡ true
         → Expands d (atom at (symbol w)) (core at (constant (atom at (symbol w))))

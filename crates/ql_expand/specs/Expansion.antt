@@ -26,8 +26,8 @@ with_two at w c e = core at (primitive w (and_core c (and_core e no_cores)))
 
 -- the first core, or else the second
 abbrev pub either_core : ℕ → Core → Core → Core
-either_core at c e = core at (binding (and_bound (binder at hidden) c no_bounds)
-    (core at (conditional (core at (variable hidden)) (core at (variable hidden)) e)))
+either_core at c e = core at (binding (and_bound (binder at (hidden 0)) c no_bounds)
+    (core at (conditional (core at (variable (hidden 0))) (core at (variable (hidden 0))) e)))
 
 abbrev pub one_bound : Binder → Core → Bounds
 one_bound b c = and_bound b c no_bounds
@@ -126,7 +126,7 @@ abbrev mutual
   bind (atom o (symbol v)) = (binder o (named v), nil_core o)
   bind (list p (more (atom o (symbol v)) none) proper) = (binder o (named v), nil_core o)
   bind (list p (more (atom o (symbol v)) (more e none)) proper) = (binder o (named v), expanded false e)
-  bind f = (binder 0 hidden, nil_core 0)
+  bind f = (binder 0 (hidden 0), nil_core 0)
 
   pub binds : Forms → Bounds
   binds none = no_bounds

@@ -20,7 +20,7 @@ letters names n = slice_index_or names n []
 
 abbrev pub name_of : List (List ℕ) → VarName → Name
 name_of names (Sym n) = named (letters names n)
-name_of names (Hidden n) = hidden
+name_of names (Hidden n) = hidden n
 
 abbrev pub binder_of : List (List ℕ) → Binder → spec.Binder
 binder_of names b = binder b.at.0 (name_of names b.name)

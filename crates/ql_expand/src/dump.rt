@@ -64,9 +64,8 @@ fn put_variable(
 ) -> Result<(), AllocError> {
     match name {
         VarName::Sym(number) => put_symbol(alloc, to, names, number, at),
-        VarName::Hidden(number) => {
-            // The rows have `?` alone, so another number than 0 is seen.
-            to.push(if number == 0 { b'?' } else { b'!' })?;
+        VarName::Hidden(_) => {
+            to.push(b'?')?;
             put_at(alloc, to, at)
         }
     }

@@ -200,7 +200,7 @@ impl<'a> Builder<'a> {
 
     /// The hidden variable of the sugar at this offset with its first value.
     pub fn hidden_bound(&self, at: Offset, value: Core) -> Bound
-        ensures { bound_of self.now.names.now result ≡ (binder at.0 hidden, core_of self.now.names.now value) }
+        ensures { bound_of self.now.names.now result ≡ (binder at.0 (hidden 0), core_of self.now.names.now value) }
     {
         let binder = Binder {
             at,

@@ -42,7 +42,7 @@ loop_step a b f h k hs rest same e inv = ap (λ x. with_binders x rest) (e ∙ a
 -- The innermost binder of a name has that name.
 pub found_is : (bs : List Binder) (w : List ℕ) (at : ℕ) → offset_named bs w ≡ Some at → binder_named bs w ≡ Some (binder at (named w))
 found_is [] w at h = absurd cc
-found_is (binder i hidden ∷ bs) w at h = found_is bs w at h
+found_is (binder i (hidden n) ∷ bs) w at h = found_is bs w at h
 found_is (binder i (named v) ∷ bs) w at h = by (bytes_eq v w) refl h (found_is bs w at)
   where
     by : (t : Bool) → bytes_eq v w ≡ t → option_map offset_of (if t then Some (binder i (named v)) else binder_named bs w) ≡ Some at
@@ -82,8 +82,8 @@ same_is (binder i (named v)) (binder j (named w)) h =
     both true true k = (refl, refl)
     both true false k = absurd cc
     both false t k = absurd cc
-same_is (binder i hidden) c h = absurd cc
-same_is (binder i (named v)) (binder j hidden) h = absurd cc
+same_is (binder i (hidden n)) c h = absurd cc
+same_is (binder i (named v)) (binder j (hidden n)) h = absurd cc
 
 among_last : (b : Binder) (bs : List Binder) (c : Binder) → is_binder_among b (bs ++ c ∷ []) ≡ (is_binder_among b bs || same_variable b c)
 among_last b [] c = by (same_variable b c)
@@ -136,12 +136,12 @@ all_stored names ks bs f g p d h e i j at n hn =
     ∙ (among_all (binder at (named (letters names n))) [] (f ++ g) ∙ ap (is_binder_among (binder at (named (letters names n)))) (sym j)))
 
 -- A hidden variable is the variable of no `setq`.
-hidden_among : (at : ℕ) (bs : List Binder) → is_binder_among (binder at hidden) bs ≡ false
-hidden_among at [] = refl
-hidden_among at (b ∷ bs) = hidden_among at bs
+hidden_among : (at n : ℕ) (bs : List Binder) → is_binder_among (binder at (hidden n)) bs ≡ false
+hidden_among at n [] = refl
+hidden_among at n (b ∷ bs) = hidden_among at n bs
 
-pub hidden_is_not_stored : (p : Program) (at : ℕ) → is_stored p (binder at hidden) ≡ false
-hidden_is_not_stored p at = hidden_among at (stored_binders p)
+pub hidden_is_not_stored : (p : Program) (at n : ℕ) → is_stored p (binder at (hidden n)) ≡ false
+hidden_is_not_stored p at n = hidden_among at n (stored_binders p)
 
 -- A table of variables answers as the search of its list.
 pub listed : (eq : Variable → Variable → Bool) → ((x y : Variable) → eq x y ≡ (x.at == y.at && x.name == y.name)) → (ks : List Variable) (k : Variable) → list_any (eq k) ks ≡ is_listed ks k.at k.name

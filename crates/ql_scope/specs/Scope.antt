@@ -41,7 +41,7 @@ parameter_count (f ∷ fs) w = if bytes_eq f.letters w then Some f.parameters el
 -- what a binder is called; a hidden variable has no name
 abbrev pub name_at : Binder → List (List ℕ)
 name_at (binder at (named w)) = w ∷ []
-name_at (binder at hidden) = []
+name_at (binder at (hidden n)) = []
 
 abbrev pub names_at : List Binder → List (List ℕ)
 names_at [] = []
@@ -67,7 +67,7 @@ where_true b faults = if b then faults else []
 
 -- a use of a variable: a binder above it or a global has its name
 abbrev pub use_faults : Place → ℕ → Name → List Fault
-use_faults p at hidden = []
+use_faults p at (hidden n) = []
 use_faults p at (named w) = unless (is_among w p.variables || is_among w p.globals) (fault Unbound at)
 
 -- a call with so many arguments, of a function with so many parameters
@@ -85,7 +85,7 @@ seventeenth_faults count at = where_true (count == most) (fault TooMany at)
 
 -- what is wrong with the name of a binder, with these names before it in its list
 abbrev pub called_faults : (globals before : List (List ℕ)) → Binder → List Fault
-called_faults globals before (binder at hidden) = []
+called_faults globals before (binder at (hidden n)) = []
 called_faults globals before (binder at (named w)) = twice_faults before at w ++ where_true (is_among w globals) (fault Shadow at)
 
 abbrev pub offset_of : Binder → ℕ

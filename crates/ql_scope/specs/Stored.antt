@@ -7,7 +7,7 @@ use Rattle.ql_scope.specs.Scope.{binders_in}
 -- whether a binder has this name
 abbrev pub has_name : List ℕ → Binder → Bool
 has_name w (binder at (named v)) = bytes_eq v w
-has_name w (binder at hidden) = false
+has_name w (binder at (hidden n)) = false
 
 -- The binders above a place are listed from the innermost outwards. This is the first of them with this name.
 abbrev pub binder_named : List Binder → List ℕ → Option Binder
@@ -25,7 +25,7 @@ at_most_one (Some b) = b ∷ []
 
 -- the binder that a `setq` of this variable names, if there is one
 abbrev pub binder_set : List Binder → Name → List Binder
-binder_set above hidden = []
+binder_set above (hidden n) = []
 binder_set above (named w) = at_most_one (binder_named above w)
 
 abbrev mutual

@@ -128,7 +128,7 @@ pub bind-returns-in-None : goal.bind-returns-in-None
 bind-returns-in-None t c =
     let names = c.args.self.now.names.now in
     let f = form_of names c.args.form.now in
-    c.hidden_bound.ensures ∙ ap (λ x. (binder 0 hidden, x)) c.nil_core-in-None.ensures ∙ sym (no_bind f (c.in_default.ensures names) (c.in-None.ensures names))
+    c.hidden_bound.ensures ∙ ap (λ x. (binder 0 (hidden 0), x)) c.nil_core-in-None.ensures ∙ sym (no_bind f (c.in_default.ensures names) (c.in-None.ensures names))
 
 pub bind-returns-in-Some-operation_in : goal.bind-returns-in-Some-operation_in
 bind-returns-in-Some-operation_in t c =

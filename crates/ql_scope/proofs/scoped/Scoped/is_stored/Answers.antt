@@ -17,4 +17,4 @@ returns-in-Sym-clause-stored c names scoped numbered =
 pub returns-in-Hidden-clause-stored : goal.returns-in-Hidden-clause-stored
 returns-in-Hidden-clause-stored c names scoped numbered =
     let p = program_of names c.args.self.now.program in
-    sym (ap (λ v. is_stored p (binder c.args.binder.0 (name_of names v))) c.in-Hidden.is ∙ hidden_is_not_stored p c.args.binder.0)
+    sym (ap (λ v. is_stored p (binder c.args.binder.0 (name_of names v))) c.in-Hidden.is ∙ hidden_is_not_stored p c.args.binder.0 c.in-Hidden.field-0)
