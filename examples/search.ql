@@ -1,5 +1,5 @@
 ; The first process that finds the number throws it to the catch, which kills the others.
-; Each of them says its name when it is left, whether it found nothing, threw or was killed.
+; Each that has begun its unwind-protect says its name when it leaves it: it found nothing, threw or was killed.
 (defun scan (wanted numbers)
   (cond ((null numbers) nil)
         ((eq wanted (car numbers)) (throw 'found wanted))

@@ -150,7 +150,7 @@ distinct_by : (names : List (List ℕ)) (text : List ℕ) (p : Option ℕ) → p
 distinct_by names text None e d = rw e (distinct_with names text d e)
 distinct_by names text (Some n) e d = rw e d
 
-distinct_all : (names texts : List (List ℕ)) → AreDistinct names → AreDistinct (with_names names texts)
+pub distinct_all : (names texts : List (List ℕ)) → AreDistinct names → AreDistinct (with_names names texts)
 distinct_all names [] d = d
 distinct_all names (text ∷ texts) d = distinct_all (with_name names text) texts (distinct_by names text (place_of names text) refl d)
 

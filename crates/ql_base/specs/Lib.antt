@@ -1,5 +1,7 @@
-pub mod Limits
-pub mod Memory
 pub mod Names
 pub mod Outside
+pub mod Memory
+pub mod Limits
+pub mod Refusal
+pub mod Reserved
 pub mod Standard

@@ -3,10 +3,13 @@
 #![tactic(auto)]
 
 pub mod fault;
+pub mod laws;
 pub mod limits;
 pub mod memory;
 pub mod names;
 pub mod numbers;
 pub mod outside;
+pub mod refusal;
+pub mod reserved;
 pub mod standard;
 pub mod sure;

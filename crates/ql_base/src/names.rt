@@ -1,64 +1,16 @@
 //! Names by number.
 
-ghost use Rattle.std.specs.Prelude.{◌≡◌, ◌<◌, ◌≤◌, ◌^◌, IfOk, OnOk, OnErr, length, map, [], Some, slice_get};
+ghost use Rattle.std.specs.Prelude.{◌≡◌, ◌<◌, ◌≤◌, ◌^◌, IfOk, OnOk, OnErr, length, map, [], Some, slice_get, slice_index_or};
 ghost use Rattle.ql_base.specs.Names.{AreDistinct, BeginsWithReserved, HasNumber, reserved, with_name, with_names};
+ghost use Rattle.ql_base.specs.Reserved.{letters};
 
+use crate::reserved::{ALL, Reserved};
 use indexmap::IndexSet;
 use std::alloc::{AllocError, Global};
 use std::marker::Model;
 
 // How many names a table can hold.
 const MOST_NAMES: usize = 4_294_967_295;
-
-/// The reserved words, in the order of their numbers.
-const RESERVED: [&[u8]; 46] = [
-    b"nil",
-    b"t",
-    b"quote",
-    b"eager",
-    b"defun",
-    b"defvar",
-    b"lambda",
-    b"qlambda",
-    b"setq",
-    b"if",
-    b"progn",
-    b"let",
-    b"qlet",
-    b"catch",
-    b"qcatch",
-    b"throw",
-    b"unwind-protect",
-    b"funcall",
-    b"print",
-    b"cons",
-    b"car",
-    b"cdr",
-    b"eq",
-    b"null",
-    b"not",
-    b"atom",
-    b"consp",
-    b"numberp",
-    b"symbolp",
-    b"+",
-    b"-",
-    b"*",
-    b"truncate",
-    b"rem",
-    b"=",
-    b"<",
-    b">",
-    b"<=",
-    b">=",
-    b"cond",
-    b"and",
-    b"or",
-    b"when",
-    b"unless",
-    b"let*",
-    b"list",
-];
 
 /// A table of names without repeats, numbered from 0 in the order in which they were first seen. It
 /// begins with the reserved words.
@@ -86,7 +38,7 @@ impl Names {
         ensures reserved { IfOk result (λ names. names ≡ reserved) }
         ensures distinct { IfOk result (λ names. AreDistinct names) }
     {
-        let texts = texts_of(alloc, &RESERVED)?;
+        let texts = texts_of(alloc, &ALL)?;
         Ok(Names { alloc, texts })
     }
 
@@ -127,15 +79,22 @@ impl Names {
     {
         &self.texts[n as usize]
     }
+
+    /// The name of this number, or no letters where there is none.
+    pub fn letters(&self, n: u32) -> &[u8]
+        ensures { result.now ≡ slice_index_or self.now n [] }
+    {
+        if n < self.len() { self.text(n) } else { b"" }
+    }
 }
 
-// Each of these words in turn, once.
-fn texts_of(alloc: Global, words: &[&[u8]]) -> Result<IndexSet<Vec<u8>>, AllocError>
-    ensures { IfOk result (λ texts. map (λ text. text.items) texts.keys ≡ with_names [] (map (λ word. word.now) words.now)) }
+// The letters of each of these words in turn, once.
+fn texts_of(alloc: Global, words: &[Reserved]) -> Result<IndexSet<Vec<u8>>, AllocError>
+    ensures { IfOk result (λ texts. map (λ text. text.items) texts.keys ≡ with_names [] (map letters words.now)) }
 {
     let mut texts = IndexSet::with_capacity(alloc, words.len())?;
     for word in words {
-        insert_word(alloc, &mut texts, word)?;
+        insert_word(alloc, &mut texts, word.letters())?;
     }
     Ok(texts)
 }

@@ -7,6 +7,8 @@
 ghost use Rattle.std.specs.Prelude.{◌≡◌, ◌≤◌, ◌<◌, ◌-◌, ◌^◌, ℕ, List, Option, length, take, IfOk, OnOk, OnErr};
 ghost use Rattle.ql_base.specs.Outside.{HasRisen, Reads, Appends};
 
+use crate::numbers::Pid;
+
 /// A call of an end failed.
 #[derive(Clone, Copy, Debug, PartialEq, Eq)]
 pub struct Failed;
@@ -46,4 +48,19 @@ pub trait Sink {
         ensures kept { OnOk result (faults self.new ≡ faults self.old) }
         ensures failed { OnErr result (HasRisen (faults self.old) (faults self.new)) }
         ensures same { OnErr result (held self.new ≡ held self.old) };
+}
+
+/// What a worker passes between taking a job and running it. It can hold a worker up, and does
+/// nothing else.
+pub trait Gate {
+    /// A worker with a job of process `p`, of at most `n` ticks, passes.
+    fn pass(&self, p: Pid, n: u64);
+}
+
+/// A gate that holds nobody up.
+#[derive(Clone, Copy, Debug, PartialEq, Eq, Drop)]
+pub struct OpenGate;
+
+impl Gate for OpenGate {
+    fn pass(&self, _p: Pid, _n: u64) {}
 }

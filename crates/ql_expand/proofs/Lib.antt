@@ -1,12 +1,15 @@
-pub mod Derive
+pub mod Assembles
+pub mod Binders
+pub mod Built
+pub mod Counts
 pub mod Examples
-pub mod Exists
-pub mod Faults
-pub mod Shapes
-pub mod Unique
+mod FaultKinds
+pub mod Fine
+pub mod Gathering
+pub mod Making
+mod Numbers
+mod Primitives
+pub mod Splits
+mod TopForms
+mod Unique
 pub mod Weights
-pub mod Words
-pub mod Operations
-pub mod Loops
-pub mod Builds
-pub mod Tops

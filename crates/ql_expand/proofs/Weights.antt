@@ -1,13 +1,15 @@
--- How large forms are, and what is known of the forms of slices.
-use Rattle.std.proofs.Common.{◌≡◌, ℕ, zero, suc, ◌+◌, ◌<◌, ◌≤◌, ◌-◌, List, [], ◌∷◌, length, get_or, take, drop, refl, sym, ap, subst, arith, Some, None}
+-- How large forms are, and their parts.
+use Rattle.std.proofs.Common.{◌≡◌, ℕ, zero, suc, ◌+◌, ◌<◌, ◌≤◌, List, [], ◌∷◌, ◌++◌, length, get_or, drop, refl, sym, ap, subst, arith, Some, None}
 use Rattle.std.specs.Prelude.{Bool, true, false, if◌then◌else◌}
-use Rattle.ql_forms.specs.Form.{Form as Spelled, Forms, none, more, proper, dotted, atom, list, is_nil}
+use Rattle.ql_forms.specs.Form.{Form as Datum, Forms, none, more, proper, dotted, atom, list, symbol, integer, is_nil, items_of, operation_in}
 use Rattle.ql_forms.specs.View.{form_of, forms_of}
 use Rattle.ql_forms.specs.declared.form.Form.{Form}
-use Rattle.ql_expand.specs.Expands.{items_of, proper_items}
+use Rattle.ql_expand.specs.Building.{Fits, fits_datum, fits_forms, fits_assignment, fits_let, fits_let_star, fits_qlet, fits_lambda, fits_qlambda, fits_clauses}
+use Rattle.ql_expand.specs.Parts.{Split, misshapen, datum, forms, assignment, bindings, form_and_bindings, parameters, form_and_parameters, definition, clauses, clause_in}
+use Rattle.ql_expand.specs.declared.operator.Operator.{Operator}
 
 abbrev mutual
-  pub weight : Spelled → ℕ
+  pub weight : Datum → ℕ
   weight (atom at a) = 1
   weight (list at fs t) = weights fs + 1
 
@@ -15,63 +17,80 @@ abbrev mutual
   weights none = 0
   weights (more f fs) = weight f + 1 + weights fs
 
-take_all : (xs : List Form) (n : ℕ) → n ≡ length xs → take n xs ≡ xs
-take_all [] zero h = refl
-take_all [] (suc n) h = absurd (omega arith)
-take_all (x ∷ xs) zero h = absurd (omega arith)
-take_all (x ∷ xs) (suc n) h = ap (λ ys. x ∷ ys) (take_all xs n (omega arith))
+abbrev pub split_weight : Split → ℕ
+split_weight (forms fs) = weights fs
+split_weight (assignment o v e) = weight e + 1
+split_weight (bindings bs es) = weights bs + weights es
+split_weight (form_and_bindings f bs es) = weight f + 1 + (weights bs + weights es)
+split_weight (parameters ps es) = weights es
+split_weight (form_and_parameters f ps es) = weight f + 1 + weights es
+split_weight (clauses cs) = weights cs
+split_weight _ = 0
 
-pub first_and_rest : (xs : List Form) (x : Form) → 1 ≤ length xs → x ≡ get_or xs 0 x → xs ≡ x ∷ take (length xs - 1) (drop 1 xs)
-first_and_rest [] x h e = absurd (omega arith)
-first_and_rest (y ∷ xs) x h e = rw (e, take_all xs (length (y ∷ xs) - 1) (omega arith)) refl
+nil_items : (n : Bool) (fs : Forms) → (if n then Some none else None) ≡ Some fs → none ≡ fs
+nil_items true fs e = cc
+nil_items false fs e = cc
 
-pub has_first : (names : List (List ℕ)) (xs : List Form) (x : Form) → 1 ≤ length xs → x ≡ get_or xs 0 x
-    → forms_of names xs ≡ more (form_of names x) (forms_of names (take (length xs - 1) (drop 1 xs)))
-has_first names xs x h e = ap (forms_of names) (first_and_rest xs x h e)
-
-pub only_one : (xs : List Form) (x : Form) → 1 ≤ length xs → length xs < 2 → x ≡ get_or xs 0 x → xs ≡ x ∷ []
-only_one [] x h k e = absurd (omega arith)
-only_one (y ∷ []) x h k e = rw e refl
-only_one (y ∷ (z ∷ xs)) x h k e = absurd (omega arith)
-
-pub only_two : (xs : List Form) (x y : Form) → 2 ≤ length xs → length xs < 3 → x ≡ get_or xs 0 x → y ≡ get_or xs 1 y → xs ≡ x ∷ (y ∷ [])
-only_two [] x y h k e f = absurd (omega arith)
-only_two (z ∷ []) x y h k e f = absurd (omega arith)
-only_two (z ∷ (u ∷ [])) x y h k e f = rw (e, f) refl
-only_two (z ∷ (u ∷ (v ∷ xs))) x y h k e f = absurd (omega arith)
-
-pub nothing : (xs : List Form) → length xs < 1 → xs ≡ []
-nothing [] h = refl
-nothing (x ∷ xs) h = absurd (omega arith)
-
-pub drop_at : (forms : List Form) (i : ℕ) (f : Form) → i < length forms → f ≡ get_or forms i f → drop i forms ≡ f ∷ drop (i + 1) forms
-drop_at [] i f h e = absurd (omega arith)
-drop_at (x ∷ forms) zero f h e = rw (sym e) refl
-drop_at (x ∷ forms) (suc i) f h e =
-    let within : i < length forms = omega arith in
-    let n : suc i + 1 ≡ suc (i + 1) = omega arith in
-    rw n (drop_at forms i f within e)
-
--- the weight of the one at a place, and of those from there on
-pub weight_from : (names : List (List ℕ)) (forms : List Form) (i : ℕ) (f : Form) → i < length forms → f ≡ get_or forms i f
-    → weight (form_of names f) + 1 ≤ weights (forms_of names forms)
-weight_from names [] i f h e = absurd (omega arith)
-weight_from names (x ∷ forms) zero f h e = subst (λ (y : Form). weight (form_of names y) + 1 ≤ weights (forms_of names (x ∷ forms))) (sym e) (omega arith)
-weight_from names (x ∷ forms) (suc i) f h e =
-    let within : i < length forms = omega arith in
-    let small : weight (form_of names f) + 1 ≤ weights (forms_of names forms) = weight_from names forms i f within e in
-    omega arith
-
-pub weight_proper : (f : Spelled) (fs : Forms) → proper_items f ≡ Some fs → weight f ≡ weights fs + 1
-weight_proper (list at gs proper) fs e = let s : gs ≡ fs = cc in rw s refl
-weight_proper (list at gs (dotted a)) fs e = cc
-weight_proper (atom at a) fs e = cc
-
-if_none : (b : Bool) (fs : Forms) → (if b then Some none else None) ≡ Some fs → none ≡ fs
-if_none true fs e = cc
-if_none false fs e = cc
-
-pub weight_items : (f : Spelled) (fs : Forms) → items_of f ≡ Some fs → weights fs + 1 ≤ weight f
+weight_items : (f : Datum) (fs : Forms) → items_of f ≡ Some fs → weights fs + 1 ≤ weight f
 weight_items (list at gs proper) fs e = let s : gs ≡ fs = cc in rw s (omega arith)
 weight_items (list at gs (dotted a)) fs e = cc
-weight_items (atom at a) fs e = rw (← if_none (is_nil a) fs e) (omega arith)
+weight_items (atom at a) fs e = rw (← nil_items (is_nil a) fs e) (omega arith)
+
+-- The parts are no larger than all that stands after the operator.
+pub fits_weight : {r : Operator} {fs : Forms} {s : Split} → Fits r fs s → split_weight s ≤ weights fs
+fits_weight fits_datum = omega arith
+fits_weight (fits_forms h) = omega arith
+fits_weight fits_assignment = omega arith
+fits_weight (fits_let {b = b} {bs = bs} h) = omega (arith, weight_items b bs h)
+fits_weight (fits_let_star {b = b} {bs = bs} h) = omega (arith, weight_items b bs h)
+fits_weight (fits_qlet {b = b} {bs = bs} h) = omega (arith, weight_items b bs h)
+fits_weight fits_lambda = omega arith
+fits_weight fits_qlambda = omega arith
+fits_weight fits_clauses = omega arith
+
+pub operation_weight : (f : Datum) (o w : ℕ) (fs : Forms) → operation_in f ≡ Some ((o, w), fs) → weights fs + 3 ≤ weight f
+operation_weight (list at (more (atom p (symbol v)) gs) proper) o w fs e =
+    let pair : ((p, v), gs) ≡ ((o, w), fs) = cc in
+    let same : gs ≡ fs = ap (λ (q : (ℕ × ℕ) × Forms). q.1) pair in rw (← same) (omega arith)
+operation_weight (list at (more (atom p (symbol v)) gs) (dotted a)) o w fs e = cc
+operation_weight (list at (more (atom p (integer z)) gs) t) o w fs e = cc
+operation_weight (list at (more (list p hs u) gs) t) o w fs e = cc
+operation_weight (list at none t) o w fs e = cc
+operation_weight (atom at a) o w fs e = cc
+
+pub clause_weight : (f c : Datum) (es : Forms) → clause_in f ≡ Some (c, es) → weight c + weights es + 2 ≤ weight f
+clause_weight (list at (more b is) proper) c es e =
+    let pair : (b, is) ≡ (c, es) = cc in
+    let first : b ≡ c = ap (λ (q : Datum × Forms). q.0) pair in
+    let second : is ≡ es = ap (λ (q : Datum × Forms). q.1) pair in
+    rw (← first, ← second) (omega arith)
+clause_weight (list at (more b is) (dotted a)) c es e = cc
+clause_weight (list at none t) c es e = cc
+clause_weight (atom at a) c es e = cc
+
+-- the weight of the one at a place
+pub weight_at : (xs : List Form) (i : ℕ) (x : Form) → i < length xs → x ≡ get_or xs i x → weight (form_of x) + 1 ≤ weights (forms_of xs)
+weight_at [] i x h e = absurd (omega arith)
+weight_at (y ∷ xs) zero x h e = subst (λ (z : Form). weight (form_of z) + 1 ≤ weights (forms_of (y ∷ xs))) (sym e) (omega arith)
+weight_at (y ∷ xs) (suc i) x h e =
+    let within : i < length xs = omega arith in
+    let small : weight (form_of x) + 1 ≤ weights (forms_of xs) = weight_at xs i x within e in
+    omega arith
+
+pub weight_before : (xs : List Form) (x : Form) → weights (forms_of (xs ++ x ∷ [])) ≡ weights (forms_of xs) + (weight (form_of x) + 1)
+weight_before [] x = omega arith
+weight_before (y ∷ xs) x = omega (arith, weight_before xs x)
+
+pub drop_at : (xs : List Form) (i : ℕ) (x : Form) → i < length xs → x ≡ get_or xs i x → drop i xs ≡ x ∷ drop (i + 1) xs
+drop_at [] i x h e = absurd (omega arith)
+drop_at (y ∷ xs) zero x h e = rw (sym e) refl
+drop_at (y ∷ xs) (suc i) x h e =
+    let within : i < length xs = omega arith in
+    let n : suc i + 1 ≡ suc (i + 1) = omega arith in
+    rw n (drop_at xs i x within e)
+
+pub drop_all : (xs : List Form) (i : ℕ) → length xs ≤ i → drop i xs ≡ []
+drop_all [] zero h = refl
+drop_all [] (suc i) h = refl
+drop_all (x ∷ xs) zero h = absurd (omega arith)
+drop_all (x ∷ xs) (suc i) h = drop_all xs i (omega arith)

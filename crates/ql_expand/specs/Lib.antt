@@ -1,9 +1,13 @@
+pub mod Assembly
+pub mod Below
+pub mod Building
 pub mod Core
 pub mod Expands
 pub mod ExpandFault
-pub mod Expansion
-pub mod Fault
 pub mod Operator
+pub mod Parts
+pub mod Primitives
+pub mod ProgramView
+pub mod Searching
+pub mod Tops
 pub mod View
-pub mod Word
-pub mod Top

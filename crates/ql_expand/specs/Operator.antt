@@ -1,32 +1,69 @@
 -- What the words at the head of a list are, and what parts they want.
-use Rattle.std.specs.Prelude.{ℕ, Bool, true, false, if◌then◌else◌, List, [], ◌∷◌, Some, None, codes}
-use Rattle.std.specs.Str.{bytes_eq}
+use Rattle.std.specs.Prelude.{ℕ, Bool, true, false, Option, Some, None, slice_get}
+use Rattle.ql_base.specs.Reserved.{all}
+use Rattle.ql_base.specs.declared.reserved.Reserved.{Reserved}
+use Rattle.ql_base.specs.declared.reserved.Reserved.TheVariants as words
 use Rattle.ql_expand.specs.declared.operator.Operator.{Operator}
 use Rattle.ql_expand.specs.declared.operator.Operator.TheVariants.{Constant, Quote, Defun, Defvar, Lambda, Qlambda, Setq, If, Progn, Let, Qlet, Catch, Qcatch, Throw, Protect, Funcall, Print, Unary, Binary, Sum, Difference, Product, Not, AtMost, AtLeast, Cond, And, Or, When, Unless, LetStar, List as ListOf, Call}
 use Rattle.ql_expand.specs.declared.operator.Reading.{Reading}
 use Rattle.ql_expand.specs.declared.operator.Reading.TheVariants.{Nothing, Datum, Forms, SugarForms, Operands, Assignment, Global, Bindings, SugarBindings, FormAndBindings, Parameters, FormAndParameters, Definition, Clauses}
 
--- what the table says of the word: a word that it hasn't is a function
-abbrev pub found_in : List (List ℕ × Operator) → List ℕ → Operator
-found_in [] word = Call
-found_in (row ∷ rows) word = if bytes_eq row.0 word then row.1 else found_in rows word
+-- what each reserved word is
+abbrev pub reserved_operator : Reserved → Operator
+reserved_operator words.Nil = Constant
+reserved_operator words.True = Constant
+reserved_operator words.Quote = Quote
+reserved_operator words.Eager = Call
+reserved_operator words.Defun = Defun
+reserved_operator words.Defvar = Defvar
+reserved_operator words.Lambda = Lambda
+reserved_operator words.Qlambda = Qlambda
+reserved_operator words.Setq = Setq
+reserved_operator words.If = If
+reserved_operator words.Progn = Progn
+reserved_operator words.Let = Let
+reserved_operator words.Qlet = Qlet
+reserved_operator words.Catch = Catch
+reserved_operator words.Qcatch = Qcatch
+reserved_operator words.Throw = Throw
+reserved_operator words.UnwindProtect = Protect
+reserved_operator words.Funcall = Funcall
+reserved_operator words.Print = Print
+reserved_operator words.Cons = Binary
+reserved_operator words.Car = Unary
+reserved_operator words.Cdr = Unary
+reserved_operator words.Eq = Binary
+reserved_operator words.Null = Unary
+reserved_operator words.Not = Not
+reserved_operator words.Atom = Unary
+reserved_operator words.Consp = Unary
+reserved_operator words.Numberp = Unary
+reserved_operator words.Symbolp = Unary
+reserved_operator words.Plus = Sum
+reserved_operator words.Minus = Difference
+reserved_operator words.Times = Product
+reserved_operator words.Truncate = Binary
+reserved_operator words.Rem = Binary
+reserved_operator words.Equal = Binary
+reserved_operator words.Less = Binary
+reserved_operator words.Greater = Binary
+reserved_operator words.AtMost = AtMost
+reserved_operator words.AtLeast = AtLeast
+reserved_operator words.Cond = Cond
+reserved_operator words.And = And
+reserved_operator words.Or = Or
+reserved_operator words.When = When
+reserved_operator words.Unless = Unless
+reserved_operator words.LetStar = LetStar
+reserved_operator words.List = ListOf
 
--- the reserved words but `eager`
-abbrev pub operators : List (List ℕ × Operator)
-operators =
-    (codes "nil", Constant) ∷ (codes "t", Constant) ∷ (codes "quote", Quote) ∷ (codes "defun", Defun) ∷ (codes "defvar", Defvar)
-    ∷ (codes "lambda", Lambda) ∷ (codes "qlambda", Qlambda) ∷ (codes "setq", Setq) ∷ (codes "if", If) ∷ (codes "progn", Progn)
-    ∷ (codes "let", Let) ∷ (codes "qlet", Qlet) ∷ (codes "catch", Catch) ∷ (codes "qcatch", Qcatch) ∷ (codes "throw", Throw)
-    ∷ (codes "unwind-protect", Protect) ∷ (codes "funcall", Funcall) ∷ (codes "print", Print) ∷ (codes "cons", Binary)
-    ∷ (codes "car", Unary) ∷ (codes "cdr", Unary) ∷ (codes "eq", Binary) ∷ (codes "null", Unary) ∷ (codes "not", Not)
-    ∷ (codes "atom", Unary) ∷ (codes "consp", Unary) ∷ (codes "numberp", Unary) ∷ (codes "symbolp", Unary) ∷ (codes "+", Sum)
-    ∷ (codes "-", Difference) ∷ (codes "*", Product) ∷ (codes "truncate", Binary) ∷ (codes "rem", Binary) ∷ (codes "=", Binary)
-    ∷ (codes "<", Binary) ∷ (codes ">", Binary) ∷ (codes "<=", AtMost) ∷ (codes ">=", AtLeast) ∷ (codes "cond", Cond)
-    ∷ (codes "and", And) ∷ (codes "or", Or) ∷ (codes "when", When) ∷ (codes "unless", Unless) ∷ (codes "let*", LetStar)
-    ∷ (codes "list", ListOf) ∷ []
+-- what the word with this number is; one that isn't reserved is a function
+abbrev pub operator_or_call : Option Reserved → Operator
+operator_or_call None = Call
+operator_or_call (Some word) = reserved_operator word
 
-unfoldable pub operator_of : List ℕ → Operator
-operator_of = found_in operators
+unfoldable pub operator_of : ℕ → Operator
+operator_of n = operator_or_call (slice_get all n)
 
 abbrev pub reading_of : Operator → Reading
 reading_of Constant = Nothing

@@ -1,32 +1,30 @@
--- The core that values stand for, with these names.
-use Rattle.std.specs.Prelude.{ℕ, List, [], ◌∷◌, map, slice_index_or}
-use Rattle.ql_forms.specs.View.{form_of}
+-- The core that values stand for.
+use Rattle.std.specs.Prelude.{List, [], ◌∷◌, map}
+use Rattle.ql_forms.specs.Form.{Form, atom}
+use Rattle.ql_forms.specs.View.{atom_of, form_of}
 use Rattle.ql_expand.specs.Core as spec
-use Rattle.ql_expand.specs.Core.{Name, named, hidden, binder, core, Cores, no_cores, and_core, Bounds, no_bounds, and_bound, constant, variable, setq, conditional, progn, binding, primitive, print, call, funcall, lambda, qlet, qlambda, catch, qcatch, throw, protect, defvar, function, program}
-use Rattle.ql_expand.specs.declared.program.VarName.{VarName}
-use Rattle.ql_expand.specs.declared.program.VarName.TheVariants.{Sym, Hidden}
-use Rattle.ql_expand.specs.declared.program.Binder.{Binder}
-use Rattle.ql_expand.specs.declared.program.Core.{Core}
-use Rattle.ql_expand.specs.declared.program.Bound.{Bound}
-use Rattle.ql_expand.specs.declared.program.Node.{Node, fold-Node}
-use Rattle.ql_expand.specs.declared.program.Node.TheFolds.{fold-Core, fold-Bound}
-use Rattle.ql_expand.specs.declared.program.Node.TheOpen.{Node-F, Core-F, Bound-F}
-use Rattle.ql_expand.specs.declared.program.Function.{Function}
-use Rattle.ql_expand.specs.declared.program.Program.{Program}
+use Rattle.ql_expand.specs.Core.{Name, named, hidden, binder, core, Cores, no_cores, and_core, Bounds, no_bounds, and_bound, constant, variable, setq, conditional, progn, binding, primitive, print, call, funcall, lambda, qlet, qlambda, catch, qcatch, throw, protect, defvar, function}
+use Rattle.ql_expand.specs.declared.core_form.Constant.{Constant}
+use Rattle.ql_expand.specs.declared.core_form.Constant.TheVariants.{Spelled, Atom}
+use Rattle.ql_expand.specs.declared.core_form.VarName.{VarName}
+use Rattle.ql_expand.specs.declared.core_form.VarName.TheVariants.{Sym, Hidden}
+use Rattle.ql_expand.specs.declared.core_form.Binder.{Binder}
+use Rattle.ql_expand.specs.declared.core_form.Core.{Core}
+use Rattle.ql_expand.specs.declared.core_form.Bound.{Bound}
+use Rattle.ql_expand.specs.declared.core_form.Node.{Node, fold-Node}
+use Rattle.ql_expand.specs.declared.core_form.Node.TheFolds.{fold-Core, fold-Bound}
+use Rattle.ql_expand.specs.declared.core_form.Node.TheOpen.{Node-F, Core-F, Bound-F}
+use Rattle.ql_expand.specs.declared.core_form.Function.{Function}
 
--- the letters of the symbol with this number
-abbrev pub letters : List (List ℕ) → ℕ → List ℕ
-letters names n = slice_index_or names n []
+abbrev pub name_of : VarName → Name
+name_of (Sym n) = named n
+name_of (Hidden n) = hidden n
 
-abbrev pub name_of : List (List ℕ) → VarName → Name
-name_of names (Sym n) = named (letters names n)
-name_of names (Hidden n) = hidden n
+abbrev pub binder_of : Binder → spec.Binder
+binder_of b = binder b.at.0 (name_of b.name)
 
-abbrev pub binder_of : List (List ℕ) → Binder → spec.Binder
-binder_of names b = binder b.at.0 (name_of names b.name)
-
-abbrev pub binders_of : List (List ℕ) → List Binder → List spec.Binder
-binders_of names bs = map (binder_of names) bs
+abbrev pub binders_of : List Binder → List spec.Binder
+binders_of bs = map binder_of bs
 
 abbrev pub in_order : List spec.Core → Cores
 in_order [] = no_cores
@@ -36,52 +34,52 @@ abbrev pub bounds_in_order : List (spec.Binder × spec.Core) → Bounds
 bounds_in_order [] = no_bounds
 bounds_in_order (b ∷ bs) = and_bound b.0 b.1 (bounds_in_order bs)
 
+abbrev pub constant_of : Constant → Form
+constant_of (Spelled f) = form_of f.now
+constant_of (Atom at a) = atom at.0 (atom_of a)
+
 -- one level, with each core inside already seen
-abbrev pub node_step : List (List ℕ) → Node-F spec.Node (spec.Binder × spec.Core) spec.Core → spec.Node
-node_step names (Node-F.Const f) = constant (form_of names f)
-node_step names (Node-F.Var v) = variable (name_of names v)
-node_step names (Node-F.Setq v at c) = setq (name_of names v) at.0 c
-node_step names (Node-F.If a b c) = conditional a b c
-node_step names (Node-F.Progn cs) = progn (in_order cs)
-node_step names (Node-F.Let bs c) = binding (bounds_in_order bs) c
-node_step names (Node-F.Prim op cs) = primitive (letters names op) (in_order cs)
-node_step names (Node-F.Print c) = print c
-node_step names (Node-F.Call n at cs) = call (letters names n) at.0 (in_order cs)
-node_step names (Node-F.Funcall ignored c cs) = funcall ignored c (in_order cs)
-node_step names (Node-F.Lambda ps c) = lambda (binders_of names ps) c
-node_step names (Node-F.Qlet p bs c) = qlet p (bounds_in_order bs) c
-node_step names (Node-F.Qlambda p ps c) = qlambda p (binders_of names ps) c
-node_step names (Node-F.Catch a b) = catch a b
-node_step names (Node-F.Qcatch a b) = qcatch a b
-node_step names (Node-F.Throw a b) = throw a b
-node_step names (Node-F.Protect a b) = protect a b
-node_step names (Node-F.Defvar n at c) = defvar (letters names n) at.0 c
+abbrev pub node_step : Node-F spec.Node (spec.Binder × spec.Core) spec.Core → spec.Node
+node_step (Node-F.Const c) = constant (constant_of c)
+node_step (Node-F.Var v) = variable (name_of v)
+node_step (Node-F.Setq v at c) = setq (name_of v) at.0 c
+node_step (Node-F.If a b c) = conditional a b c
+node_step (Node-F.Progn cs) = progn (in_order cs)
+node_step (Node-F.Let bs c) = binding (bounds_in_order bs) c
+node_step (Node-F.Prim op cs) = primitive op (in_order cs)
+node_step (Node-F.Print c) = print c
+node_step (Node-F.Call n at cs) = call n at.0 (in_order cs)
+node_step (Node-F.Funcall ignored c cs) = funcall ignored c (in_order cs)
+node_step (Node-F.Lambda ps c) = lambda (binders_of ps) c
+node_step (Node-F.Qlet p bs c) = qlet p (bounds_in_order bs) c
+node_step (Node-F.Qlambda p ps c) = qlambda p (binders_of ps) c
+node_step (Node-F.Catch a b) = catch a b
+node_step (Node-F.Qcatch a b) = qcatch a b
+node_step (Node-F.Throw a b) = throw a b
+node_step (Node-F.Protect a b) = protect a b
+node_step (Node-F.Defvar n at c) = defvar n at.0 c
 
-abbrev pub bound_step : List (List ℕ) → Bound-F spec.Node (spec.Binder × spec.Core) spec.Core → spec.Binder × spec.Core
-bound_step names b = (binder_of names b.binder, b.value)
+abbrev pub bound_step : Bound-F spec.Node (spec.Binder × spec.Core) spec.Core → spec.Binder × spec.Core
+bound_step b = (binder_of b.binder, b.value)
 
-abbrev pub core_step : List (List ℕ) → Core-F spec.Node (spec.Binder × spec.Core) spec.Core → spec.Core
-core_step names c = core c.at.0 c.node
+abbrev pub core_step : Core-F spec.Node (spec.Binder × spec.Core) spec.Core → spec.Core
+core_step c = core c.at.0 c.node
 
-abbrev pub node_of : List (List ℕ) → Node → spec.Node
-node_of names = fold-Node spec.Node (spec.Binder × spec.Core) spec.Core (node_step names) (bound_step names) (core_step names)
+abbrev pub node_of : Node → spec.Node
+node_of = fold-Node spec.Node (spec.Binder × spec.Core) spec.Core node_step bound_step core_step
 
--- a core with the letters of its names
-abbrev pub core_of : List (List ℕ) → Core → spec.Core
-core_of names = fold-Core spec.Node (spec.Binder × spec.Core) spec.Core (node_step names) (bound_step names) (core_step names)
+abbrev pub core_of : Core → spec.Core
+core_of = fold-Core spec.Node (spec.Binder × spec.Core) spec.Core node_step bound_step core_step
 
 -- a variable and its first value
-abbrev pub bound_of : List (List ℕ) → Bound → spec.Binder × spec.Core
-bound_of names = fold-Bound spec.Node (spec.Binder × spec.Core) spec.Core (node_step names) (bound_step names) (core_step names)
+abbrev pub bound_of : Bound → spec.Binder × spec.Core
+bound_of = fold-Bound spec.Node (spec.Binder × spec.Core) spec.Core node_step bound_step core_step
 
-abbrev pub cores_of : List (List ℕ) → List Core → Cores
-cores_of names cs = in_order (map (core_of names) cs)
+abbrev pub cores_of : List Core → Cores
+cores_of cs = in_order (map core_of cs)
 
-abbrev pub bounds_of : List (List ℕ) → List Bound → Bounds
-bounds_of names bs = bounds_in_order (map (bound_of names) bs)
+abbrev pub bounds_of : List Bound → Bounds
+bounds_of bs = bounds_in_order (map bound_of bs)
 
-abbrev pub function_of : List (List ℕ) → Function → spec.Function
-function_of names f = function f.at.0 (letters names f.name) f.named.0 (binders_of names f.params) (core_of names f.body)
-
-abbrev pub program_of : List (List ℕ) → Program → spec.Program
-program_of names p = program (map (function_of names) p.functions) (map (letters names) p.globals) (cores_of names p.body)
+abbrev pub function_of : Function → spec.Function
+function_of f = function f.at.0 f.name f.named.0 (binders_of f.params) (core_of f.body)

@@ -1,612 +1,482 @@
-//! The core of forms.
+//! The core of forms that have no fault.
 
-ghost use Rattle.std.specs.Prelude.{◌≡◌, ℕ, IfOk, codes, false};
-ghost use Rattle.ql_forms.specs.View.{form_of, forms_of};
-ghost use Rattle.ql_forms.specs.Form.{more};
-ghost use Rattle.ql_expand.specs.Core.{core, primitive, call};
-ghost use Rattle.ql_expand.specs.Expands.{applied};
-ghost use Rattle.ql_expand.specs.Expansion.{expanded, body, in_turn, each, setq_core, if_core, bind, binds, bounds_in, let_core, qlet_core, lambda_core, qlambda_core, catch_core, qcatch_core, throw_core, protect_core, funcall_core, print_core, operands_core, folded, list_core, and_all, or_all, when_core, unless_core, cond_core, let_star_core, nested, with_one};
-ghost use Rattle.ql_expand.specs.View.{letters, bound_of, bounds_of, core_of, cores_of};
-ghost use Rattle.ql_expand.specs.Word.{letters_of_word};
+ghost use Rattle.std.specs.Prelude.{◌≡◌, ◌≤◌, ◌++◌, ◌==◌, ◌&&◌, ◌∷◌, [], ℕ, IfOk, MatchOption, Some, false, length, true};
+ghost use Rattle.ql_forms.specs.Form.{Forms as Data, atom, more, count};
+ghost use Rattle.ql_forms.specs.View.{atom_of, form_of, forms_of};
+ghost use Rattle.ql_expand.specs.Building.{IsList, IsFine, AreFine, IsFineBind, AreFineBinds, IsFineClause, AreFineClauses, HasParameters, HasBinders, allows, Becomes, ExpandsAs, EachOf};
+ghost use Rattle.ql_expand.specs.Core.{binder, named};
+ghost use Rattle.ql_expand.specs.Expands.{applied, parameters_in, binders_in, Expands, Body, InTurn, Bind, Binds};
+ghost use Rattle.ql_expand.specs.Operator.{operator_of, reading_of};
+ghost use Rattle.ql_expand.specs.Assembly.{way_of};
+ghost use Rattle.ql_expand.specs.declared.operator.Operator.{Operator as OperatorOf};
+ghost use Rattle.ql_expand.specs.Parts.{assignment, bindings, form_and_bindings, parameters, form_and_parameters};
+ghost use Rattle.ql_expand.specs.View.{binders_of, bound_of, bounds_of, core_of, cores_of};
 
-use crate::form::{Symbol, atom_in, letters, offset_of, operation_in, proper_items, symbol_in};
-use crate::make::{Builder, first_item};
+use crate::assemble::{
+    Way, atom_core, before_body, binding, boxed_nil, conditional, either, funcall, lambda, nested,
+    nil_core, of_each, print, progn, qlambda, qlet, quoted, setq, way_of,
+};
+use crate::core_form::{Binder, Bound, Core, VarName};
 use crate::operator::{Operator, operator_of};
-use crate::program::{Bound, Core};
-use crate::word::Word;
+use crate::parts::{Parts, bind_of, clause_of, parts_of};
 use ql_base::numbers::Offset;
-use ql_forms::form::Form;
+use ql_forms::form::{Atom, Form, Symbol, first_of};
 use sqlite_items::{Boxed, Items};
-use std::alloc::AllocError;
+use std::alloc::{AllocError, Global};
 
-impl<'a> Builder<'a> {
-    /// The core of a form.
-    #[cycle(build)]
-    pub fn expanded(&self, dropped: bool, form: &Form) -> Result<Core, AllocError>
-        ensures { IfOk result (λ c. core_of self.now.names.now c ≡ expanded dropped (form_of self.now.names.now form.now)) }
-    {
-        if let Some((at, atom)) = atom_in(form) {
-            return Ok(self.atom_core(at, atom));
-        }
-        let at = offset_of(form);
-        match operation_in(form) {
-            None => Ok(self.nil_core(at)),
-            Some((operator, parts)) => self.applied_core(dropped, at, operator, parts),
-        }
+/// The core of a form.
+#[cycle(build)]
+pub fn expanded<'a>(alloc: Global, dropped: bool, form: &'a Form) -> Result<Core<'a>, AllocError>
+    requires { IsFine (form_of form.now) }
+    ensures { IfOk result (λ c. Expands dropped (form_of form.now) (core_of c)) }
+{
+    if let Some((at, atom)) = atom_in(form) {
+        return Ok(atom_core(at, atom));
     }
-
-    /// The core of a form whose value is used, boxed.
-    #[cycle(build)]
-    pub fn boxed(&self, form: &Form) -> Result<Boxed<Core>, AllocError>
-        ensures { IfOk result (λ c. core_of self.now.names.now c ≡ expanded false (form_of self.now.names.now form.now)) }
-    {
-        let core = self.expanded(false, form)?;
-        Boxed::new(self.alloc, core)
+    match form.operation() {
+        None => unreachable!(),
+        Some((head, parts)) => applied(alloc, dropped, form.offset(), head, parts),
     }
+}
 
-    // Of a list with this operator.
-    #[cycle(build)]
-    fn applied_core(
-        &self,
-        dropped: bool,
-        at: Offset,
-        operator: Symbol,
-        parts: &[Form],
-    ) -> Result<Core, AllocError>
-        ensures { IfOk result (λ c. core_of self.now.names.now c
-            ≡ expanded dropped (applied at.0 operator.at.0 (letters self.now.names.now operator.number) (forms_of self.now.names.now parts.now))) }
-    {
-        match operator_of(letters(self.names, operator.number)) {
-            Operator::Constant | Operator::Defun | Operator::Defvar => Ok(self.nil_core(at)),
-            Operator::Quote => self.quoted_core(at, parts),
-            Operator::Lambda => self.lambda_core(at, parts),
-            Operator::Qlambda => self.qlambda_core(at, parts),
-            Operator::Setq => self.setq_core(at, parts),
-            Operator::If => self.if_core(at, parts),
-            Operator::Progn => self.body(at, parts),
-            Operator::Let => self.let_core(at, parts),
-            Operator::Qlet => self.qlet_core(at, parts),
-            Operator::Catch => self.catch_core(at, parts),
-            Operator::Qcatch => self.qcatch_core(at, parts),
-            Operator::Throw => self.throw_core(at, parts),
-            Operator::Protect => self.protect_core(at, parts),
-            Operator::Funcall => self.funcall_core(dropped, at, parts),
-            Operator::Print => self.print_core(at, parts),
-            Operator::Unary | Operator::Binary => self.primitive_core(at, operator.number, parts),
-            Operator::Sum | Operator::Difference => {
-                self.operands_core(at, operator.number, 0, parts)
-            }
-            Operator::Product => self.operands_core(at, operator.number, 1, parts),
-            Operator::Not => self.primitive_core(at, Word::Null.number(self.names), parts),
-            Operator::AtMost => self.negated_core(at, Word::Greater, parts),
-            Operator::AtLeast => self.negated_core(at, Word::Less, parts),
-            Operator::Cond => self.cond_core(at, parts),
-            Operator::And => self.and_all(dropped, at, parts),
-            Operator::Or => self.or_all(dropped, at, parts),
-            Operator::When => self.when_core(at, parts),
-            Operator::Unless => self.unless_core(at, parts),
-            Operator::LetStar => self.let_star_core(at, parts),
-            Operator::List => self.list_core(at, parts),
-            Operator::Call => self.call_core(at, operator, parts),
+// The atom that a form is, with its offset.
+fn atom_in(form: &Form) -> Option<(Offset, Atom)>
+    ensures { MatchOption result (IsList (form_of form.now)) (λ found. form_of form.now ≡ atom found.0.0 (atom_of found.1)) }
+{
+    match form {
+        Form::Atom { at, atom } => Some((*at, *atom)),
+        Form::List { .. } => None,
+    }
+}
+
+// The values of some forms of `and` and `or` are dropped: of a single one, where that of the whole is.
+fn passes(dropped: bool, forms: &[Form]) -> bool
+    ensures { result ≡ ((length forms.now == 1) && dropped) }
+{
+    forms.len() == 1 && dropped
+}
+
+/// The core of a form whose value is used, boxed.
+#[cycle(build)]
+pub fn boxed<'a>(alloc: Global, form: &'a Form) -> Result<Boxed<Core<'a>>, AllocError>
+    requires { IsFine (form_of form.now) }
+    ensures { IfOk result (λ c. Expands false (form_of form.now) (core_of c)) }
+{
+    let core = expanded(alloc, false, form)?;
+    Boxed::new(alloc, core)
+}
+
+// A list with this operator.
+#[cycle(build)]
+fn applied<'a>(
+    alloc: Global,
+    dropped: bool,
+    at: Offset,
+    head: Symbol,
+    parts: &'a [Form],
+) -> Result<Core<'a>, AllocError>
+    requires { IsFine (applied at.0 head.at.0 head.number (forms_of parts.now)) }
+    ensures { IfOk result (λ c. Expands dropped (applied at.0 head.at.0 head.number (forms_of parts.now)) (core_of c)) }
+{
+    let operator = operator_of(head.number);
+    match parts_of(operator, parts) {
+        Parts::Misshapen => unreachable!(),
+        Parts::Definition { .. } => unreachable!(),
+        Parts::Datum(datum) => Ok(quoted(at, datum)),
+        Parts::Forms(forms) => of_forms(alloc, dropped, at, operator, head, forms),
+        Parts::Assignment { variable, value } => assigned(alloc, at, variable, value),
+        Parts::Bindings { binds, body } => bound(alloc, at, operator, binds, body),
+        Parts::FormAndBindings { form, binds, body } => bound_apart(alloc, at, form, binds, body),
+        Parts::Parameters { params, body } => closed(alloc, at, params, body),
+        Parts::FormAndParameters { form, params, body } => {
+            closed_apart(alloc, at, form, params, body)
         }
-    }
-
-    /// The core of the forms of a progn or of a body.
-    #[cycle(build)]
-    pub fn body(&self, at: Offset, forms: &[Form]) -> Result<Core, AllocError>
-        ensures { IfOk result (λ c. core_of self.now.names.now c ≡ body at.0 (forms_of self.now.names.now forms.now)) }
-    {
-        let Some((form, others)) = self.split_first(forms) else {
-            return Ok(self.nil_core(at));
-        };
-        match self.split_first(others) {
-            None => self.expanded(false, form),
-            Some(_) => {
-                let cores = self.in_turn(forms)?;
-                Ok(self.progn(at, cores))
-            }
+        Parts::Clauses(clauses) => {
+            let core = cond(alloc, at, clauses)?;
+            Ok(core.into_inner())
         }
     }
+}
 
-    // The same, boxed.
-    #[cycle(build)]
-    fn boxed_body(&self, at: Offset, forms: &[Form]) -> Result<Boxed<Core>, AllocError>
-        ensures { IfOk result (λ c. core_of self.now.names.now c ≡ body at.0 (forms_of self.now.names.now forms.now)) }
-    {
-        let core = self.body(at, forms)?;
-        Boxed::new(self.alloc, core)
+// A change of a variable.
+#[cycle(build)]
+fn assigned<'a>(
+    alloc: Global,
+    at: Offset,
+    variable: Symbol,
+    value: &'a Form,
+) -> Result<Core<'a>, AllocError>
+    requires { IsFine (form_of value.now) }
+    ensures { (r : OperatorOf) → IfOk result (λ c. Becomes at.0 r (assignment variable.at.0 variable.number (form_of value.now)) (core_of c)) }
+{
+    let value = boxed(alloc, value)?;
+    Ok(setq(at, variable, value))
+}
+
+// Bindings and a body.
+#[cycle(build)]
+fn bound<'a>(
+    alloc: Global,
+    at: Offset,
+    operator: Operator,
+    binds: &'a [Form],
+    body: &'a [Form],
+) -> Result<Core<'a>, AllocError>
+    requires binds { AreFineBinds (forms_of binds.now) }
+    requires body { AreFine (forms_of body.now) }
+    ensures { IfOk result (λ c. Becomes at.0 operator (bindings (forms_of binds.now) (forms_of body.now)) (core_of c)) }
+{
+    let binds = all_bound(alloc, binds)?;
+    let body = boxed_body(alloc, at, body)?;
+    match operator {
+        Operator::LetStar => nested(alloc, at, binds, body),
+        _ => Ok(binding(at, binds, body)),
     }
+}
 
-    // Forms of which only the last one's value is used.
-    #[cycle(build)]
-    fn in_turn(&self, forms: &[Form]) -> Result<Items<Core>, AllocError>
-        ensures { IfOk result (λ cores. cores_of self.now.names.now cores ≡ in_turn (forms_of self.now.names.now forms.now)) }
-    {
-        let [before @ .., last] = forms else {
-            return Ok(Items::new(self.alloc));
-        };
-        let mut cores = Vec::with_capacity(self.alloc, forms.len())?;
-        for form in before {
-            let core = self.expanded(true, form)?;
+// Bindings whose values may be found by processes, and a body.
+#[cycle(build)]
+fn bound_apart<'a>(
+    alloc: Global,
+    at: Offset,
+    form: &'a Form,
+    binds: &'a [Form],
+    body: &'a [Form],
+) -> Result<Core<'a>, AllocError>
+    requires form { IsFine (form_of form.now) }
+    requires binds { AreFineBinds (forms_of binds.now) }
+    requires body { AreFine (forms_of body.now) }
+    ensures { (r : OperatorOf) → IfOk result (λ c. Becomes at.0 r (form_and_bindings (form_of form.now) (forms_of binds.now) (forms_of body.now)) (core_of c)) }
+{
+    let prop = boxed(alloc, form)?;
+    let binds = all_bound(alloc, binds)?;
+    let body = boxed_body(alloc, at, body)?;
+    Ok(qlet(at, prop, binds, body))
+}
+
+// A closure.
+#[cycle(build)]
+fn closed<'a>(
+    alloc: Global,
+    at: Offset,
+    params: &'a Form,
+    body: &'a [Form],
+) -> Result<Core<'a>, AllocError>
+    requires params { HasParameters (form_of params.now) }
+    requires body { AreFine (forms_of body.now) }
+    ensures { (r : OperatorOf) → IfOk result (λ c. Becomes at.0 r (parameters (form_of params.now) (forms_of body.now)) (core_of c)) }
+{
+    let params = parameters(alloc, params)?;
+    let body = boxed_body(alloc, at, body)?;
+    Ok(lambda(at, params, body))
+}
+
+// A closure that may be a process.
+#[cycle(build)]
+fn closed_apart<'a>(
+    alloc: Global,
+    at: Offset,
+    form: &'a Form,
+    params: &'a Form,
+    body: &'a [Form],
+) -> Result<Core<'a>, AllocError>
+    requires form { IsFine (form_of form.now) }
+    requires params { HasParameters (form_of params.now) }
+    requires body { AreFine (forms_of body.now) }
+    ensures { (r : OperatorOf) → IfOk result (λ c. Becomes at.0 r (form_and_parameters (form_of form.now) (form_of params.now) (forms_of body.now)) (core_of c)) }
+{
+    let prop = boxed(alloc, form)?;
+    let params = parameters(alloc, params)?;
+    let body = boxed_body(alloc, at, body)?;
+    Ok(qlambda(at, prop, params, body))
+}
+
+// The body of the form at this offset.
+#[cycle(build)]
+pub fn body<'a>(alloc: Global, at: Offset, forms: &'a [Form]) -> Result<Core<'a>, AllocError>
+    requires { AreFine (forms_of forms.now) }
+    ensures { IfOk result (λ c. Body at.0 (forms_of forms.now) (core_of c)) }
+{
+    let Some((form, others)) = first_of(forms) else {
+        return Ok(nil_core(at));
+    };
+    match first_of(others) {
+        None => expanded(alloc, false, form),
+        Some(_) => {
+            let cores = in_turn(alloc, forms)?;
+            Ok(progn(at, cores))
+        }
+    }
+}
+
+// The same, boxed.
+#[cycle(build)]
+fn boxed_body<'a>(
+    alloc: Global,
+    at: Offset,
+    forms: &'a [Form],
+) -> Result<Boxed<Core<'a>>, AllocError>
+    requires { AreFine (forms_of forms.now) }
+    ensures { IfOk result (λ c. Body at.0 (forms_of forms.now) (core_of c)) }
+{
+    let core = body(alloc, at, forms)?;
+    Boxed::new(alloc, core)
+}
+
+// Forms of which only the last one's value is used.
+#[cycle(build)]
+fn in_turn<'a>(alloc: Global, forms: &'a [Form]) -> Result<Items<Core<'a>>, AllocError>
+    requires fine { AreFine (forms_of forms.now) }
+    requires some { 1 ≤ length forms.now }
+    ensures { IfOk result (λ cores. InTurn (forms_of forms.now) (cores_of cores)) }
+{
+    match last_of(forms) {
+        None => unreachable!(),
+        Some((before, last)) => {
+            let mut cores = each(alloc, true, before)?;
+            let core = expanded(alloc, false, last)?;
             cores.push(core)?;
+            Ok(Items::from_vec(cores))
         }
-        let core = self.expanded(false, last)?;
+    }
+}
+
+// The forms before the last, and the last.
+fn last_of(forms: &[Form]) -> Option<(&[Form], &Form)>
+    ensures { MatchOption result (forms.now ≡ []) (λ found. forms.now ≡ found.0.now ++ found.1.now ∷ []) }
+{
+    let (last, before) = forms.split_last()?;
+    Some((before, last))
+}
+
+// Forms whose values are all dropped, or all used.
+#[cycle(build)]
+fn each<'a>(alloc: Global, dropped: bool, forms: &'a [Form]) -> Result<Vec<Core<'a>>, AllocError>
+    requires { AreFine (forms_of forms.now) }
+    ensures { IfOk result (λ cores. EachOf dropped (forms_of forms.now) (cores_of cores.items)) }
+{
+    let mut cores = Vec::with_capacity(alloc, forms.len())?;
+    for form in forms {
+        let core = expanded(alloc, dropped, form)?;
         cores.push(core)?;
-        Ok(Items::from_vec(cores))
     }
+    Ok(cores)
+}
 
-    // Forms whose values are all used.
-    #[cycle(build)]
-    fn each(&self, forms: &[Form]) -> Result<Items<Core>, AllocError>
-        ensures { IfOk result (λ cores. cores_of self.now.names.now cores ≡ each (forms_of self.now.names.now forms.now)) }
-    {
-        let mut cores = Vec::with_capacity(self.alloc, forms.len())?;
-        for form in forms {
-            let core = self.expanded(false, form)?;
-            cores.push(core)?;
-        }
-        Ok(Items::from_vec(cores))
+// Bindings.
+#[cycle(build)]
+fn all_bound<'a>(alloc: Global, forms: &'a [Form]) -> Result<Items<Bound<'a>>, AllocError>
+    requires { AreFineBinds (forms_of forms.now) }
+    ensures { IfOk result (λ bounds. Binds (forms_of forms.now) (bounds_of bounds)) }
+{
+    let mut bounds = Vec::with_capacity(alloc, forms.len())?;
+    for form in forms {
+        let bound = bind(alloc, form)?;
+        bounds.push(bound)?;
     }
+    Ok(Items::from_vec(bounds))
+}
 
-    #[cycle(build)]
-    fn setq_core(&self, at: Offset, parts: &[Form]) -> Result<Core, AllocError>
-        ensures { IfOk result (λ c. core_of self.now.names.now c ≡ setq_core at.0 (forms_of self.now.names.now parts.now)) }
-    {
-        match self.assignment_in(parts) {
-            None => Ok(self.nil_core(at)),
-            Some((variable, value)) => {
-                let value = self.boxed(value)?;
-                Ok(self.setq(at, variable, value))
+// A variable and its first value.
+#[cycle(build)]
+fn bind<'a>(alloc: Global, form: &'a Form) -> Result<Bound<'a>, AllocError>
+    requires { IsFineBind (form_of form.now) }
+    ensures { IfOk result (λ b. Bind (form_of form.now) (bound_of b).0 (bound_of b).1) }
+{
+    match bind_of(form) {
+        None => unreachable!(),
+        Some(found) => match found.value {
+            None => Ok(bound_to(found.variable, nil_core(found.variable.at))),
+            Some(value) => {
+                let value = expanded(alloc, false, value)?;
+                Ok(bound_to(found.variable, value))
             }
+        },
+    }
+}
+
+fn bound_to<'a>(variable: Symbol, value: Core<'a>) -> Bound<'a>
+    ensures { bound_of result ≡ (binder variable.at.0 (named variable.number), core_of value.entry) }
+{
+    let binder = Binder {
+        at: variable.at,
+        name: VarName::Sym(variable.number),
+    };
+    Bound { binder, value }
+}
+
+// Clauses.
+#[cycle(build)]
+fn cond<'a>(alloc: Global, at: Offset, clauses: &'a [Form]) -> Result<Boxed<Core<'a>>, AllocError>
+    requires { AreFineClauses (forms_of clauses.now) }
+    ensures { IfOk result (λ c. ExpandsAs at.0 Operator.Cond (forms_of clauses.now) (core_of c)) }
+{
+    match first_of(clauses) {
+        None => boxed_nil(alloc, at),
+        Some((form, others)) => {
+            let rest = cond(alloc, at, others)?;
+            let core = clause(alloc, at, form, rest)?;
+            Boxed::new(alloc, core)
         }
     }
+}
 
-    #[cycle(build)]
-    fn if_core(&self, at: Offset, parts: &[Form]) -> Result<Core, AllocError>
-        ensures { IfOk result (λ c. core_of self.now.names.now c ≡ if_core at.0 (forms_of self.now.names.now parts.now)) }
-    {
-        let Some((test, branches)) = self.split_first(parts) else {
-            return Ok(self.nil_core(at));
-        };
-        let Some((then, others)) = self.split_first(branches) else {
-            return Ok(self.nil_core(at));
-        };
-        match self.split_first(others) {
+// A clause, and what is built of those after it.
+#[cycle(build)]
+fn clause<'a>(
+    alloc: Global,
+    at: Offset,
+    form: &'a Form,
+    rest: Boxed<Core<'a>>,
+) -> Result<Core<'a>, AllocError>
+    requires { IsFineClause (form_of form.now) }
+    ensures { (others : Data) → ExpandsAs at.0 Operator.Cond others (core_of rest.entry)
+        → IfOk result (λ c. ExpandsAs at.0 Operator.Cond (more (form_of form.now) others) (core_of c)) }
+{
+    match clause_of(form) {
+        None => unreachable!(),
+        Some((test, forms)) => match first_of(forms) {
             None => {
-                let test = self.boxed(test)?;
-                let then = self.boxed(then)?;
-                let other = self.boxed_nil(at)?;
-                Ok(self.conditional(at, test, then, other))
-            }
-            Some((other, rest)) => self.full_if_core(at, test, then, other, rest),
-        }
-    }
-
-    // Of an if form with these three parts, and no more.
-    #[cycle(build)]
-    fn full_if_core(
-        &self,
-        at: Offset,
-        test: &Form,
-        then: &Form,
-        other: &Form,
-        rest: &[Form],
-    ) -> Result<Core, AllocError>
-        ensures { IfOk result (λ c. core_of self.now.names.now c
-            ≡ if_core at.0 (more (form_of self.now.names.now test.now) (more (form_of self.now.names.now then.now)
-            (more (form_of self.now.names.now other.now) (forms_of self.now.names.now rest.now))))) }
-    {
-        match self.split_first(rest) {
-            None => {
-                let test = self.boxed(test)?;
-                let then = self.boxed(then)?;
-                let other = self.boxed(other)?;
-                Ok(self.conditional(at, test, then, other))
-            }
-            Some(_) => Ok(self.nil_core(at)),
-        }
-    }
-
-    // A variable and its first value.
-    #[cycle(build)]
-    fn bind(&self, form: &Form) -> Result<Bound, AllocError>
-        ensures { IfOk result (λ b. bound_of self.now.names.now b ≡ bind (form_of self.now.names.now form.now)) }
-    {
-        if let Some(symbol) = symbol_in(form) {
-            return Ok(self.bound(symbol, self.nil_core(symbol.at)));
-        }
-        match operation_in(form) {
-            None => Ok(self.hidden_bound(Offset(0), self.nil_core(Offset(0)))),
-            Some((variable, values)) => self.bind_to(variable, values),
-        }
-    }
-
-    // A variable and its value, if there is one.
-    #[cycle(build)]
-    fn bind_to(&self, variable: Symbol, values: &[Form]) -> Result<Bound, AllocError>
-        ensures { (at : ℕ) → IfOk result (λ b. bound_of self.now.names.now b
-            ≡ bind (applied at variable.at.0 (letters self.now.names.now variable.number) (forms_of self.now.names.now values.now))) }
-    {
-        let Some((value, others)) = self.split_first(values) else {
-            return Ok(self.bound(variable, self.nil_core(variable.at)));
-        };
-        match self.split_first(others) {
-            None => {
-                let value = self.expanded(false, value)?;
-                Ok(self.bound(variable, value))
-            }
-            Some(_) => Ok(self.hidden_bound(Offset(0), self.nil_core(Offset(0)))),
-        }
-    }
-
-    #[cycle(build)]
-    fn binds(&self, forms: &[Form]) -> Result<Items<Bound>, AllocError>
-        ensures { IfOk result (λ bs. bounds_of self.now.names.now bs ≡ binds (forms_of self.now.names.now forms.now)) }
-    {
-        let mut binds = Vec::with_capacity(self.alloc, forms.len())?;
-        for form in forms {
-            let bind = self.bind(form)?;
-            binds.push(bind)?;
-        }
-        Ok(Items::from_vec(binds))
-    }
-
-    // The bindings in the list of a let form.
-    #[cycle(build)]
-    fn bounds_in(&self, form: &Form) -> Result<Items<Bound>, AllocError>
-        ensures { IfOk result (λ bs. bounds_of self.now.names.now bs ≡ bounds_in (form_of self.now.names.now form.now)) }
-    {
-        match proper_items(form) {
-            None => Ok(Items::new(self.alloc)),
-            Some(items) => self.binds(items),
-        }
-    }
-
-    #[cycle(build)]
-    fn let_core(&self, at: Offset, parts: &[Form]) -> Result<Core, AllocError>
-        ensures { IfOk result (λ c. core_of self.now.names.now c ≡ let_core at.0 (forms_of self.now.names.now parts.now)) }
-    {
-        let Some((binds, forms)) = self.split_first(parts) else {
-            return Ok(self.nil_core(at));
-        };
-        let binds = self.bounds_in(binds)?;
-        let body = self.boxed_body(at, forms)?;
-        Ok(self.binding(at, binds, body))
-    }
-
-    #[cycle(build)]
-    fn qlet_core(&self, at: Offset, parts: &[Form]) -> Result<Core, AllocError>
-        ensures { IfOk result (λ c. core_of self.now.names.now c ≡ qlet_core at.0 (forms_of self.now.names.now parts.now)) }
-    {
-        let Some((proposition, others)) = self.split_first(parts) else {
-            return Ok(self.nil_core(at));
-        };
-        let Some((binds, forms)) = self.split_first(others) else {
-            return Ok(self.nil_core(at));
-        };
-        let proposition = self.boxed(proposition)?;
-        let binds = self.bounds_in(binds)?;
-        let body = self.boxed_body(at, forms)?;
-        Ok(self.qlet(at, proposition, binds, body))
-    }
-
-    #[cycle(build)]
-    fn lambda_core(&self, at: Offset, parts: &[Form]) -> Result<Core, AllocError>
-        ensures { IfOk result (λ c. core_of self.now.names.now c ≡ lambda_core at.0 (forms_of self.now.names.now parts.now)) }
-    {
-        let Some((parameters, forms)) = self.split_first(parts) else {
-            return Ok(self.nil_core(at));
-        };
-        let parameters = self.parameters_of(parameters)?;
-        let body = self.boxed_body(at, forms)?;
-        Ok(self.lambda(at, parameters, body))
-    }
-
-    #[cycle(build)]
-    fn qlambda_core(&self, at: Offset, parts: &[Form]) -> Result<Core, AllocError>
-        ensures { IfOk result (λ c. core_of self.now.names.now c ≡ qlambda_core at.0 (forms_of self.now.names.now parts.now)) }
-    {
-        let Some((proposition, others)) = self.split_first(parts) else {
-            return Ok(self.nil_core(at));
-        };
-        let Some((parameters, forms)) = self.split_first(others) else {
-            return Ok(self.nil_core(at));
-        };
-        let proposition = self.boxed(proposition)?;
-        let parameters = self.parameters_of(parameters)?;
-        let body = self.boxed_body(at, forms)?;
-        Ok(self.qlambda(at, proposition, parameters, body))
-    }
-
-    #[cycle(build)]
-    fn catch_core(&self, at: Offset, parts: &[Form]) -> Result<Core, AllocError>
-        ensures { IfOk result (λ c. core_of self.now.names.now c ≡ catch_core at.0 (forms_of self.now.names.now parts.now)) }
-    {
-        let Some((tag, forms)) = self.split_first(parts) else {
-            return Ok(self.nil_core(at));
-        };
-        let tag = self.boxed(tag)?;
-        let body = self.boxed_body(at, forms)?;
-        Ok(self.catch(at, tag, body))
-    }
-
-    #[cycle(build)]
-    fn qcatch_core(&self, at: Offset, parts: &[Form]) -> Result<Core, AllocError>
-        ensures { IfOk result (λ c. core_of self.now.names.now c ≡ qcatch_core at.0 (forms_of self.now.names.now parts.now)) }
-    {
-        let Some((tag, forms)) = self.split_first(parts) else {
-            return Ok(self.nil_core(at));
-        };
-        let tag = self.boxed(tag)?;
-        let body = self.boxed_body(at, forms)?;
-        Ok(self.qcatch(at, tag, body))
-    }
-
-    #[cycle(build)]
-    fn throw_core(&self, at: Offset, parts: &[Form]) -> Result<Core, AllocError>
-        ensures { IfOk result (λ c. core_of self.now.names.now c ≡ throw_core at.0 (forms_of self.now.names.now parts.now)) }
-    {
-        let Some((tag, others)) = self.split_first(parts) else {
-            return Ok(self.nil_core(at));
-        };
-        let Some((value, rest)) = self.split_first(others) else {
-            return Ok(self.nil_core(at));
-        };
-        match self.split_first(rest) {
-            None => {
-                let tag = self.boxed(tag)?;
-                let value = self.boxed(value)?;
-                Ok(self.throw(at, tag, value))
-            }
-            Some(_) => Ok(self.nil_core(at)),
-        }
-    }
-
-    #[cycle(build)]
-    fn protect_core(&self, at: Offset, parts: &[Form]) -> Result<Core, AllocError>
-        ensures { IfOk result (λ c. core_of self.now.names.now c ≡ protect_core at.0 (forms_of self.now.names.now parts.now)) }
-    {
-        let Some((value, forms)) = self.split_first(parts) else {
-            return Ok(self.nil_core(at));
-        };
-        let value = self.boxed(value)?;
-        let cleanup = self.boxed_body(at, forms)?;
-        Ok(self.protect(at, value, cleanup))
-    }
-
-    #[cycle(build)]
-    fn funcall_core(&self, dropped: bool, at: Offset, parts: &[Form]) -> Result<Core, AllocError>
-        ensures { IfOk result (λ c. core_of self.now.names.now c ≡ funcall_core dropped at.0 (forms_of self.now.names.now parts.now)) }
-    {
-        let Some((function, operands)) = self.split_first(parts) else {
-            return Ok(self.nil_core(at));
-        };
-        let function = self.boxed(function)?;
-        let args = self.each(operands)?;
-        Ok(self.funcall(at, dropped, function, args))
-    }
-
-    #[cycle(build)]
-    fn print_core(&self, at: Offset, parts: &[Form]) -> Result<Core, AllocError>
-        ensures { IfOk result (λ c. core_of self.now.names.now c ≡ print_core at.0 (forms_of self.now.names.now parts.now)) }
-    {
-        let Some((value, others)) = self.split_first(parts) else {
-            return Ok(self.nil_core(at));
-        };
-        match self.split_first(others) {
-            None => {
-                let value = self.boxed(value)?;
-                Ok(self.print(at, value))
-            }
-            Some(_) => Ok(self.nil_core(at)),
-        }
-    }
-
-    // A primitive of as many operands as there are.
-    #[cycle(build)]
-    fn primitive_core(&self, at: Offset, op: u32, parts: &[Form]) -> Result<Core, AllocError>
-        ensures { IfOk result (λ c. core_of self.now.names.now c
-            ≡ core at.0 (primitive (letters self.now.names.now op) (each (forms_of self.now.names.now parts.now)))) }
-    {
-        let args = self.each(parts)?;
-        Ok(self.primitive(at, op, args))
-    }
-
-    // The contrary of a primitive.
-    #[cycle(build)]
-    fn negated_core(&self, at: Offset, op: Word, parts: &[Form]) -> Result<Core, AllocError>
-        ensures { IfOk result (λ c. core_of self.now.names.now c
-            ≡ with_one at.0 (codes "null") (core at.0 (primitive (letters_of_word op) (each (forms_of self.now.names.now parts.now))))) }
-    {
-        let value = self.primitive_core(at, op.number(self.names), parts)?;
-        self.primitive_of_one(at, Word::Null.number(self.names), value)
-    }
-
-    #[cycle(build)]
-    fn call_core(&self, at: Offset, function: Symbol, parts: &[Form]) -> Result<Core, AllocError>
-        ensures { IfOk result (λ c. core_of self.now.names.now c
-            ≡ core at.0 (call (letters self.now.names.now function.number) function.at.0 (each (forms_of self.now.names.now parts.now)))) }
-    {
-        let args = self.each(parts)?;
-        Ok(self.call(at, function, args))
-    }
-
-    // Operands of an operator of two, with the number that stands for none.
-    #[cycle(build)]
-    fn operands_core(
-        &self,
-        at: Offset,
-        op: u32,
-        neutral: u8,
-        parts: &[Form],
-    ) -> Result<Core, AllocError>
-        ensures { IfOk result (λ c. core_of self.now.names.now c
-            ≡ operands_core at.0 (letters self.now.names.now op) neutral (forms_of self.now.names.now parts.now)) }
-    {
-        let Some((first, others)) = self.split_first(parts) else {
-            return Ok(self.number_core(at, neutral));
-        };
-        let first = self.expanded(false, first)?;
-        match self.split_first(others) {
-            None => self.primitive_of_two(at, op, self.number_core(at, neutral), first),
-            Some(_) => self.folded(at, op, first, others),
-        }
-    }
-
-    // From the left.
-    #[cycle(build)]
-    fn folded(&self, at: Offset, op: u32, first: Core, forms: &[Form]) -> Result<Core, AllocError>
-        ensures { IfOk result (λ c. core_of self.now.names.now c
-            ≡ folded at.0 (letters self.now.names.now op) (core_of self.now.names.now first) (forms_of self.now.names.now forms.now)) }
-    {
-        let Some((form, others)) = self.split_first(forms) else {
-            return Ok(first);
-        };
-        let mut args = first_item(self.alloc, 2, first)?;
-        let second = self.expanded(false, form)?;
-        args.push(second)?;
-        let both = self.primitive(at, op, Items::from_vec(args));
-        self.folded(at, op, both, others)
-    }
-
-    #[cycle(build)]
-    fn list_core(&self, at: Offset, forms: &[Form]) -> Result<Core, AllocError>
-        ensures { IfOk result (λ c. core_of self.now.names.now c ≡ list_core at.0 (forms_of self.now.names.now forms.now)) }
-    {
-        let Some((form, others)) = self.split_first(forms) else {
-            return Ok(self.nil_core(at));
-        };
-        let first = self.expanded(false, form)?;
-        let mut args = first_item(self.alloc, 2, first)?;
-        let rest = self.list_core(at, others)?;
-        args.push(rest)?;
-        Ok(self.primitive(at, Word::Cons.number(self.names), Items::from_vec(args)))
-    }
-
-    #[cycle(build)]
-    fn and_all(&self, dropped: bool, at: Offset, forms: &[Form]) -> Result<Core, AllocError>
-        ensures { IfOk result (λ c. core_of self.now.names.now c ≡ and_all dropped at.0 (forms_of self.now.names.now forms.now)) }
-    {
-        let Some((form, others)) = self.split_first(forms) else {
-            return Ok(self.true_core(at));
-        };
-        match self.split_first(others) {
-            None => self.expanded(dropped, form),
-            Some(_) => {
-                let test = self.boxed(form)?;
-                let rest = self.and_all(false, at, others)?;
-                let rest = Boxed::new(self.alloc, rest)?;
-                let nil = self.boxed_nil(at)?;
-                Ok(self.conditional(at, test, rest, nil))
-            }
-        }
-    }
-
-    #[cycle(build)]
-    fn or_all(&self, dropped: bool, at: Offset, forms: &[Form]) -> Result<Core, AllocError>
-        ensures { IfOk result (λ c. core_of self.now.names.now c ≡ or_all dropped at.0 (forms_of self.now.names.now forms.now)) }
-    {
-        let Some((form, others)) = self.split_first(forms) else {
-            return Ok(self.nil_core(at));
-        };
-        match self.split_first(others) {
-            None => self.expanded(dropped, form),
-            Some(_) => {
-                let rest = self.or_all(false, at, others)?;
-                let rest = Boxed::new(self.alloc, rest)?;
-                let first = self.expanded(false, form)?;
-                self.either_core(at, first, rest)
-            }
-        }
-    }
-
-    #[cycle(build)]
-    fn when_core(&self, at: Offset, parts: &[Form]) -> Result<Core, AllocError>
-        ensures { IfOk result (λ c. core_of self.now.names.now c ≡ when_core at.0 (forms_of self.now.names.now parts.now)) }
-    {
-        let Some((test, forms)) = self.split_first(parts) else {
-            return Ok(self.nil_core(at));
-        };
-        let test = self.boxed(test)?;
-        let body = self.boxed_body(at, forms)?;
-        let nil = self.boxed_nil(at)?;
-        Ok(self.conditional(at, test, body, nil))
-    }
-
-    #[cycle(build)]
-    fn unless_core(&self, at: Offset, parts: &[Form]) -> Result<Core, AllocError>
-        ensures { IfOk result (λ c. core_of self.now.names.now c ≡ unless_core at.0 (forms_of self.now.names.now parts.now)) }
-    {
-        let Some((test, forms)) = self.split_first(parts) else {
-            return Ok(self.nil_core(at));
-        };
-        let test = self.boxed(test)?;
-        let nil = self.boxed_nil(at)?;
-        let body = self.boxed_body(at, forms)?;
-        Ok(self.conditional(at, test, nil, body))
-    }
-
-    #[cycle(build)]
-    fn cond_core(&self, at: Offset, clauses: &[Form]) -> Result<Core, AllocError>
-        ensures { IfOk result (λ c. core_of self.now.names.now c ≡ cond_core at.0 (forms_of self.now.names.now clauses.now)) }
-    {
-        let Some((clause, others)) = self.split_first(clauses) else {
-            return Ok(self.nil_core(at));
-        };
-        let Some(items) = proper_items(clause) else {
-            return Ok(self.nil_core(at));
-        };
-        let Some((test, forms)) = self.split_first(items) else {
-            return Ok(self.nil_core(at));
-        };
-        let rest = self.cond_core(at, others)?;
-        let rest = Boxed::new(self.alloc, rest)?;
-        match self.split_first(forms) {
-            None => {
-                let test = self.expanded(false, test)?;
-                self.either_core(at, test, rest)
+                let test = expanded(alloc, false, test)?;
+                either(alloc, at, test, rest)
             }
             Some(_) => {
-                let test = self.boxed(test)?;
-                let body = self.boxed_body(at, forms)?;
-                Ok(self.conditional(at, test, body, rest))
+                let test = boxed(alloc, test)?;
+                let body = boxed_body(alloc, at, forms)?;
+                Ok(conditional(at, test, body, rest))
             }
-        }
+        },
     }
+}
 
-    #[cycle(build)]
-    fn let_star_core(&self, at: Offset, parts: &[Form]) -> Result<Core, AllocError>
-        ensures { IfOk result (λ c. core_of self.now.names.now c ≡ let_star_core at.0 (forms_of self.now.names.now parts.now)) }
-    {
-        let Some((binds, forms)) = self.split_first(parts) else {
-            return Ok(self.nil_core(at));
-        };
-        let body = self.boxed_body(at, forms)?;
-        match proper_items(binds) {
-            None => Ok(self.binding(at, Items::new(self.alloc), body)),
-            Some(items) => self.nested(at, items, body),
+// As many forms as the operator wants.
+#[cycle(build)]
+fn of_forms<'a>(
+    alloc: Global,
+    dropped: bool,
+    at: Offset,
+    operator: Operator,
+    head: Symbol,
+    forms: &'a [Form],
+) -> Result<Core<'a>, AllocError>
+    requires operator { operator ≡ operator_of head.number }
+    requires fits { allows (reading_of operator) (count (forms_of forms.now)) ≡ true }
+    requires fine { AreFine (forms_of forms.now) }
+    ensures { IfOk result (λ c. Expands dropped (applied at.0 head.at.0 head.number (forms_of forms.now)) (core_of c)) }
+{
+    match way_of(operator) {
+        Way::InTurn => body(alloc, at, forms),
+        Way::Printed => {
+            let value = boxed_body(alloc, at, forms)?;
+            Ok(print(at, value))
+        }
+        Way::Tested => tested(alloc, at, operator, forms),
+        Way::Applied => called(alloc, dropped, at, operator, forms),
+        Way::BeforeBody => with_body(alloc, at, operator, forms),
+        Way::Linked => {
+            let cores = each(alloc, passes(dropped, forms), forms)?;
+            of_each(alloc, at, operator, head, cores)
+        }
+        Way::Each => {
+            let cores = each(alloc, false, forms)?;
+            of_each(alloc, at, operator, head, cores)
         }
     }
+}
 
-    // A body under bindings of which each sees those before it.
-    #[cycle(build)]
-    fn nested(&self, at: Offset, binds: &[Form], body: Boxed<Core>) -> Result<Core, AllocError>
-        ensures { IfOk result (λ c. core_of self.now.names.now c ≡ nested at.0 (forms_of self.now.names.now binds.now) (core_of self.now.names.now body)) }
-    {
-        let Some((bind, others)) = self.split_first(binds) else {
-            return Ok(self.binding(at, Items::new(self.alloc), body));
-        };
-        match self.split_first(others) {
-            None => {
-                let bind = self.bind(bind)?;
-                self.binding_of_one(at, bind, body)
-            }
-            Some(_) => {
-                let inner = self.nested(at, others, body)?;
-                let inner = Boxed::new(self.alloc, inner)?;
-                let bind = self.bind(bind)?;
-                self.binding_of_one(at, bind, inner)
-            }
+// A test, the form after it, and a body of at most one form.
+#[cycle(build)]
+fn tested<'a>(
+    alloc: Global,
+    at: Offset,
+    operator: Operator,
+    forms: &'a [Form],
+) -> Result<Core<'a>, AllocError>
+    requires way { way_of operator ≡ Way.Tested }
+    requires fits { allows (reading_of operator) (count (forms_of forms.now)) ≡ true }
+    requires fine { AreFine (forms_of forms.now) }
+    ensures { IfOk result (λ c. ExpandsAs at.0 operator (forms_of forms.now) (core_of c)) }
+{
+    let Some((test, branches)) = first_of(forms) else {
+        unreachable!()
+    };
+    let Some((then, others)) = first_of(branches) else {
+        unreachable!()
+    };
+    let test = boxed(alloc, test)?;
+    let then = boxed(alloc, then)?;
+    let other = boxed_body(alloc, at, others)?;
+    Ok(conditional(at, test, then, other))
+}
+
+// A call of a closure.
+#[cycle(build)]
+fn called<'a>(
+    alloc: Global,
+    dropped: bool,
+    at: Offset,
+    operator: Operator,
+    forms: &'a [Form],
+) -> Result<Core<'a>, AllocError>
+    requires way { way_of operator ≡ Way.Applied }
+    requires fits { allows (reading_of operator) (count (forms_of forms.now)) ≡ true }
+    requires fine { AreFine (forms_of forms.now) }
+    ensures { IfOk result (λ c. (o w : ℕ) → operator_of w ≡ operator → Expands dropped (applied at.0 o w (forms_of forms.now)) (core_of c)) }
+{
+    let Some((function, others)) = first_of(forms) else {
+        unreachable!()
+    };
+    let fun = boxed(alloc, function)?;
+    let args = each(alloc, false, others)?;
+    Ok(funcall(at, dropped, fun, args))
+}
+
+// A form and a body.
+#[cycle(build)]
+fn with_body<'a>(
+    alloc: Global,
+    at: Offset,
+    operator: Operator,
+    forms: &'a [Form],
+) -> Result<Core<'a>, AllocError>
+    requires way { way_of operator ≡ Way.BeforeBody }
+    requires fits { allows (reading_of operator) (count (forms_of forms.now)) ≡ true }
+    requires fine { AreFine (forms_of forms.now) }
+    ensures { IfOk result (λ c. ExpandsAs at.0 operator (forms_of forms.now) (core_of c)) }
+{
+    let Some((form, others)) = first_of(forms) else {
+        unreachable!()
+    };
+    let first = boxed(alloc, form)?;
+    let body = boxed_body(alloc, at, others)?;
+    before_body(alloc, at, operator, first, body)
+}
+
+/// The parameters in a parameter list.
+pub fn parameters(alloc: Global, form: &Form) -> Result<Items<Binder>, AllocError>
+    requires { HasParameters (form_of form.now) }
+    ensures { IfOk result (λ binders. parameters_in (form_of form.now) ≡ Some (binders_of binders)) }
+{
+    match form.items() {
+        None => unreachable!(),
+        Some(items) => all_binders(alloc, items),
+    }
+}
+
+// Symbols as binders.
+fn all_binders(alloc: Global, forms: &[Form]) -> Result<Items<Binder>, AllocError>
+    requires { HasBinders (forms_of forms.now) }
+    ensures { IfOk result (λ binders. binders_in (forms_of forms.now) ≡ Some (binders_of binders)) }
+{
+    let mut binders = Vec::with_capacity(alloc, forms.len())?;
+    for form in forms {
+        match form.symbol() {
+            None => unreachable!(),
+            Some(symbol) => binders.push(Binder {
+                at: symbol.at,
+                name: VarName::Sym(symbol.number),
+            })?,
         }
     }
+    Ok(Items::from_vec(binders))
 }

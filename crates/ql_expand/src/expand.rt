@@ -1,17 +1,17 @@
-//! The calls that check the forms of a source, and expand them.
+//! The expander.
 
-ghost use Rattle.std.specs.Prelude.{◌≡◌, ℕ, IfOk, length};
+ghost use Rattle.std.specs.Prelude.{◌≡◌, ℕ, Some, None, Err, IfOk, length};
 ghost use Rattle.ql_forms.specs.View.{forms_of};
 ghost use Rattle.ql_expand.specs.ExpandFault.{expand_fault};
 ghost use Rattle.ql_expand.specs.Expands.{ExpandsTo};
-ghost use Rattle.ql_expand.specs.View.{program_of};
+ghost use Rattle.ql_expand.specs.ProgramView.{program_of};
 ghost use Rattle.ql_expand.specs.declared.expand.ExpandRefusal.TheVariants.{Bad, Memory};
 ghost use Rattle.std.specs.declared.alloc.AllocError.{AllocError};
 
-use crate::find_fault::find_fault;
 use crate::program::Program;
-use crate::top::program_of_forms;
-use ql_forms::form::Text;
+use crate::search::find_fault;
+use crate::top::program_of_text;
+use ql_forms::text::Text;
 use std::alloc::{AllocError, Global};
 use thiserror::Error;
 
@@ -32,32 +32,37 @@ pub enum ExpandRefusal {
 /// Looks at all forms, and refuses them where one is at fault. It takes no memory, and goes down as
 /// many levels as a form may have, which are 400.
 pub fn check_forms(text: &Text) -> Result<(), ExpandRefusal>
-    ensures ok { IfOk result (λ done. expand_fault (forms_of text.now.names text.now.forms) ≡ None) }
-    ensures bad { (kind at : ℕ) → result ≡ Err (Bad kind at) → expand_fault (forms_of text.now.names text.now.forms) ≡ Some (at, kind) }
+    ensures ok { IfOk result (λ done. expand_fault text.now.names (forms_of text.now.forms) ≡ None) }
+    ensures bad { (kind at : ℕ) → result ≡ Err (Bad kind at) → expand_fault text.now.names (forms_of text.now.forms) ≡ Some (at, kind) }
     ensures needs_no_memory { (cause : AllocError) → result ≡ Err (Memory cause) → ⊥ }
 {
-    match find_fault(&text.names, text.forms.as_slice()) {
+    match find_fault(text) {
         None => Ok(()),
         Some(fault) => Err(ExpandRefusal::Bad {
             kind: fault.kind.number(),
-            at: fault.at,
+            at: fault.at.0,
         }),
     }
 }
 
-/// The program that the forms of a source expand to.
-pub fn expand(alloc: Global, text: &Text) -> Result<Program, ExpandRefusal>
+/// The program that the forms of a source expand to. It shares its constants with the source.
+pub fn expand<'a>(alloc: Global, text: &'a Text) -> Result<Program<'a>, ExpandRefusal>
     // The forms expand to it, and none of them is at fault.
-    ensures ok { IfOk result (λ program. ExpandsTo (forms_of text.now.names text.now.forms) (program_of text.now.names program)) }
-    ensures no_fault { IfOk result (λ program. expand_fault (forms_of text.now.names text.now.forms) ≡ None) }
+    ensures ok { IfOk result (λ program. ExpandsTo (forms_of text.now.forms) (program_of program)) }
+    ensures no_fault { IfOk result (λ program. expand_fault text.now.names (forms_of text.now.forms) ≡ None) }
     ensures names { IfOk result (λ program. program.names ≡ length text.now.names) }
 
     // The first fault is the answer.
-    ensures bad { (kind at : ℕ) → result ≡ Err (Bad kind at) → expand_fault (forms_of text.now.names text.now.forms) ≡ Some (at, kind) }
+    ensures bad { (kind at : ℕ) → result ≡ Err (Bad kind at) → expand_fault text.now.names (forms_of text.now.forms) ≡ Some (at, kind) }
 {
-    check_forms(text)?;
-    match program_of_forms(alloc, text) {
-        Ok(program) => Ok(program),
-        Err(cause) => Err(ExpandRefusal::Memory(cause)),
+    match find_fault(text) {
+        Some(fault) => Err(ExpandRefusal::Bad {
+            kind: fault.kind.number(),
+            at: fault.at.0,
+        }),
+        None => match program_of_text(alloc, text) {
+            Ok(program) => Ok(program),
+            Err(cause) => Err(ExpandRefusal::Memory(cause)),
+        },
     }
 }

@@ -1,24 +1,14 @@
-//! The expander: from the forms of a source to core, in which no sugar is left.
+//! The expander: core, which is what forms mean once their sugar is expanded.
 #![tactic(auto)]
 
-mod build;
-mod copy;
-#[cfg(test)]
-mod dump;
+pub mod assemble;
+pub mod build;
+pub mod core_form;
 pub mod expand;
-mod fault;
-mod find_fault;
-mod form;
 pub mod laws;
-mod make;
-mod operator;
-mod parts;
+mod level;
+pub mod operator;
+pub mod parts;
 pub mod program;
-#[cfg(test)]
-mod rows;
-#[cfg(test)]
-mod slow;
-#[cfg(test)]
-mod tests;
-mod top;
-mod word;
+mod search;
+pub mod top;

@@ -1,7 +1,9 @@
 //! What the words at the head of a list are, and what parts they want.
 
-ghost use Rattle.std.specs.Prelude.{◌≡◌, map};
-ghost use Rattle.ql_expand.specs.Operator.{operator_of, found_in, reading_of};
+ghost use Rattle.std.specs.Prelude.{◌≡◌};
+ghost use Rattle.ql_expand.specs.Operator.{operator_of, reading_of, reserved_operator};
+
+use ql_base::reserved::Reserved;
 
 /// What a word at the head of a list is.
 #[derive(Clone, Copy, Debug, PartialEq, Eq)]
@@ -84,73 +86,66 @@ pub enum Reading {
     Clauses,
 }
 
-// The reserved words but `eager`.
-const OPERATORS: [(&[u8], Operator); 45] = [
-    (b"nil", Operator::Constant),
-    (b"t", Operator::Constant),
-    (b"quote", Operator::Quote),
-    (b"defun", Operator::Defun),
-    (b"defvar", Operator::Defvar),
-    (b"lambda", Operator::Lambda),
-    (b"qlambda", Operator::Qlambda),
-    (b"setq", Operator::Setq),
-    (b"if", Operator::If),
-    (b"progn", Operator::Progn),
-    (b"let", Operator::Let),
-    (b"qlet", Operator::Qlet),
-    (b"catch", Operator::Catch),
-    (b"qcatch", Operator::Qcatch),
-    (b"throw", Operator::Throw),
-    (b"unwind-protect", Operator::Protect),
-    (b"funcall", Operator::Funcall),
-    (b"print", Operator::Print),
-    (b"cons", Operator::Binary),
-    (b"car", Operator::Unary),
-    (b"cdr", Operator::Unary),
-    (b"eq", Operator::Binary),
-    (b"null", Operator::Unary),
-    (b"not", Operator::Not),
-    (b"atom", Operator::Unary),
-    (b"consp", Operator::Unary),
-    (b"numberp", Operator::Unary),
-    (b"symbolp", Operator::Unary),
-    (b"+", Operator::Sum),
-    (b"-", Operator::Difference),
-    (b"*", Operator::Product),
-    (b"truncate", Operator::Binary),
-    (b"rem", Operator::Binary),
-    (b"=", Operator::Binary),
-    (b"<", Operator::Binary),
-    (b">", Operator::Binary),
-    (b"<=", Operator::AtMost),
-    (b">=", Operator::AtLeast),
-    (b"cond", Operator::Cond),
-    (b"and", Operator::And),
-    (b"or", Operator::Or),
-    (b"when", Operator::When),
-    (b"unless", Operator::Unless),
-    (b"let*", Operator::LetStar),
-    (b"list", Operator::List),
-];
-
-/// What this word is.
-pub fn operator_of(word: &[u8]) -> Operator
-    ensures { result ≡ operator_of word.now }
+/// What the word with this number is. One that isn't reserved is a function.
+pub fn operator_of(number: u32) -> Operator
+    ensures { result ≡ operator_of number }
 {
-    find(&OPERATORS, word)
+    match Reserved::of_number(number) {
+        Some(word) => reserved_operator(word),
+        None => Operator::Call,
+    }
 }
 
-// What the table says of the word. A word that it hasn't is a function.
-fn find(mut table: &[(&[u8], Operator)], word: &[u8]) -> Operator
-    ensures { result ≡ found_in (map (λ row. (row.0.now, row.1)) table.entry.now) word.now }
+fn reserved_operator(word: Reserved) -> Operator
+    ensures { result ≡ reserved_operator word }
 {
-    while let [row, rest @ ..] = table {
-        if row.0 == word {
-            return row.1;
-        }
-        table = rest;
+    match word {
+        Reserved::Nil | Reserved::True => Operator::Constant,
+        Reserved::Quote => Operator::Quote,
+        Reserved::Eager => Operator::Call,
+        Reserved::Defun => Operator::Defun,
+        Reserved::Defvar => Operator::Defvar,
+        Reserved::Lambda => Operator::Lambda,
+        Reserved::Qlambda => Operator::Qlambda,
+        Reserved::Setq => Operator::Setq,
+        Reserved::If => Operator::If,
+        Reserved::Progn => Operator::Progn,
+        Reserved::Let => Operator::Let,
+        Reserved::Qlet => Operator::Qlet,
+        Reserved::Catch => Operator::Catch,
+        Reserved::Qcatch => Operator::Qcatch,
+        Reserved::Throw => Operator::Throw,
+        Reserved::UnwindProtect => Operator::Protect,
+        Reserved::Funcall => Operator::Funcall,
+        Reserved::Print => Operator::Print,
+        Reserved::Cons
+        | Reserved::Eq
+        | Reserved::Truncate
+        | Reserved::Rem
+        | Reserved::Equal
+        | Reserved::Less
+        | Reserved::Greater => Operator::Binary,
+        Reserved::Car
+        | Reserved::Cdr
+        | Reserved::Null
+        | Reserved::Atom
+        | Reserved::Consp
+        | Reserved::Numberp
+        | Reserved::Symbolp => Operator::Unary,
+        Reserved::Not => Operator::Not,
+        Reserved::Plus => Operator::Sum,
+        Reserved::Minus => Operator::Difference,
+        Reserved::Times => Operator::Product,
+        Reserved::AtMost => Operator::AtMost,
+        Reserved::AtLeast => Operator::AtLeast,
+        Reserved::Cond => Operator::Cond,
+        Reserved::And => Operator::And,
+        Reserved::Or => Operator::Or,
+        Reserved::When => Operator::When,
+        Reserved::Unless => Operator::Unless,
+        Reserved::LetStar => Operator::LetStar,
+        Reserved::List => Operator::List,
     }
-    Operator::Call
 }
 
 impl Operator {

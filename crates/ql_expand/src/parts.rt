@@ -1,81 +1,246 @@
-//! Parts of forms, with the names of a source.
+//! The parts of a list after its operator.
 
-ghost use Rattle.std.specs.Prelude.{◌≡◌, IfOk, MatchOption, None};
-ghost use Rattle.ql_forms.specs.Form.{none, more, atom, symbol};
+ghost use Rattle.std.specs.Prelude.{◌≡◌, MatchOption, Some, None, option_map};
 ghost use Rattle.ql_forms.specs.View.{form_of, forms_of};
-ghost use Rattle.ql_expand.specs.Expands.{binders_in};
-ghost use Rattle.ql_expand.specs.Expansion.{assignment_in, binders_or_none, parameters_of, quoted_core};
-ghost use Rattle.ql_expand.specs.View.{letters, binders_of, core_of};
+ghost use Rattle.ql_expand.specs.ExpandFault.{fits};
+ghost use Rattle.ql_expand.specs.Operator.{reading_of};
+ghost use Rattle.ql_expand.specs.Parts.{split_of, parts_by, bind_in, with_value, clause_in, only_in, datum_by, forms_by, assignment_by, bindings_by, form_and_bindings_by, parameters_by, form_and_parameters_by, definition_by};
 
-use crate::form::{Symbol, items_of, symbol_in};
-use crate::make::Builder;
-use crate::program::{Binder, Core, VarName};
-use ql_base::numbers::Offset;
-use ql_forms::form::Form;
-use sqlite_items::Items;
-use std::alloc::AllocError;
+use crate::operator::{Operator, Reading};
+use ql_forms::form::{Form, Symbol, first_of};
 
-impl<'a> Builder<'a> {
-    /// The first form, and the others.
-    pub fn split_first<'b>(&self, forms: &'b [Form]) -> Option<(&'b Form, &'b [Form])>
-        ensures { MatchOption result (forms_of self.now.names.now forms.now ≡ none)
-            (λ parts. forms_of self.now.names.now forms.now ≡ more (form_of self.now.names.now parts.0.now) (forms_of self.now.names.now parts.1.now)) }
-    {
-        forms.split_first()
+/// The parts of a list after its operator, as they fit the shape that the operator wants.
+#[derive(Clone, Copy)]
+pub enum Parts<'a> {
+    /// They fit no shape.
+    Misshapen,
+    /// What is quoted.
+    Datum(&'a Form),
+    /// As many forms as are wanted.
+    Forms(&'a [Form]),
+    /// A variable or a global, and its value.
+    Assignment {
+        variable: Symbol,
+        value: &'a Form,
+    },
+    Bindings {
+        binds: &'a [Form],
+        body: &'a [Form],
+    },
+    FormAndBindings {
+        form: &'a Form,
+        binds: &'a [Form],
+        body: &'a [Form],
+    },
+    Parameters {
+        params: &'a Form,
+        body: &'a [Form],
+    },
+    FormAndParameters {
+        form: &'a Form,
+        params: &'a Form,
+        body: &'a [Form],
+    },
+    /// The name, the parameters and the body of a function.
+    Definition {
+        name: Symbol,
+        params: &'a Form,
+        body: &'a [Form],
+    },
+    Clauses(&'a [Form]),
+}
+
+/// The parts after this operator.
+pub fn parts_of<'a>(operator: Operator, parts: &'a [Form]) -> Parts<'a>
+    ensures { split_of result ≡ parts_by (reading_of operator) (forms_of parts.now) }
+{
+    read(operator.reading(), parts)
+}
+
+/// The parts that are read like this.
+pub fn read<'a>(reading: Reading, parts: &'a [Form]) -> Parts<'a>
+    ensures { split_of result ≡ parts_by reading (forms_of parts.now) }
+{
+    match reading {
+        Reading::Nothing => Parts::Misshapen,
+        Reading::Datum => datum(parts),
+        Reading::Forms { least, most } => forms(least, most, parts),
+        Reading::SugarForms { least, most } => forms(least, most, parts),
+        Reading::Operands { least } => forms(least, None, parts),
+        Reading::Assignment => assignment(parts),
+        Reading::Global => assignment(parts),
+        Reading::Bindings => bindings(parts),
+        Reading::SugarBindings => bindings(parts),
+        Reading::FormAndBindings => form_and_bindings(parts),
+        Reading::Parameters => parameters(parts),
+        Reading::FormAndParameters => form_and_parameters(parts),
+        Reading::Definition => definition(parts),
+        Reading::Clauses => Parts::Clauses(parts),
     }
+}
 
-    /// A variable and its value, which are all the parts there are.
-    pub fn assignment_in<'b>(&self, parts: &'b [Form]) -> Option<(Symbol, &'b Form)>
-        ensures { MatchOption result (assignment_in (forms_of self.now.names.now parts.now) ≡ None)
-            (λ found. forms_of self.now.names.now parts.now
-            ≡ more (atom found.0.at.0 (symbol (letters self.now.names.now found.0.number))) (more (form_of self.now.names.now found.1.now) none)) }
-    {
-        let (variable, others) = self.split_first(parts)?;
-        let (value, rest) = self.split_first(others)?;
-        let symbol = symbol_in(variable)?;
-        match self.split_first(rest) {
-            None => Some((symbol, value)),
-            Some(_) => None,
-        }
+// The form that stands alone.
+fn only(forms: &[Form]) -> Option<&Form>
+    ensures { MatchOption result (only_in (forms_of forms.now) ≡ None) (λ form. only_in (forms_of forms.now) ≡ Some (form_of form.now)) }
+{
+    let (form, others) = first_of(forms)?;
+    match first_of(others) {
+        None => Some(form),
+        Some(_) => None,
     }
+}
 
-    /// The core of a quote with these parts.
-    pub fn quoted_core(&self, at: Offset, parts: &[Form]) -> Result<Core, AllocError>
-        ensures { IfOk result (λ c. core_of self.now.names.now c ≡ quoted_core at.0 (forms_of self.now.names.now parts.now)) }
-    {
-        let Some((datum, others)) = self.split_first(parts) else {
-            return Ok(self.nil_core(at));
-        };
-        match self.split_first(others) {
-            None => self.constant(at, datum),
-            Some(_) => Ok(self.nil_core(at)),
-        }
+fn datum<'a>(parts: &'a [Form]) -> Parts<'a>
+    ensures { split_of result ≡ datum_by (forms_of parts.now) }
+{
+    match only(parts) {
+        Some(form) => Parts::Datum(form),
+        None => Parts::Misshapen,
     }
+}
 
-    /// The parameters in a parameter list.
-    pub fn parameters_of(&self, form: &Form) -> Result<Items<Binder>, AllocError>
-        ensures { IfOk result (λ bs. binders_of self.now.names.now bs ≡ parameters_of (form_of self.now.names.now form.now)) }
-    {
-        match items_of(self.names, form) {
-            None => Ok(Items::new(self.alloc)),
-            Some(items) => self.binders_in(items),
-        }
+// So many forms, as are wanted.
+#[tactic(auto, using(crate::proofs::Counts::as_many))]
+fn forms<'a>(least: usize, most: Option<usize>, parts: &'a [Form]) -> Parts<'a>
+    ensures { split_of result ≡ forms_by least most (forms_of parts.now) }
+{
+    if fits(least, most, parts.len()) {
+        Parts::Forms(parts)
+    } else {
+        Parts::Misshapen
     }
+}
 
-    // Symbols as binders: none where one is no symbol.
-    fn binders_in(&self, forms: &[Form]) -> Result<Items<Binder>, AllocError>
-        ensures { IfOk result (λ bs. binders_of self.now.names.now bs ≡ binders_or_none (binders_in (forms_of self.now.names.now forms.now))) }
-    {
-        let mut binders = Vec::with_capacity(self.alloc, forms.len())?;
-        for form in forms {
-            let Some(symbol) = symbol_in(form) else {
-                return Ok(Items::new(self.alloc));
-            };
-            binders.push(Binder {
-                at: symbol.at,
-                name: VarName::Sym(symbol.number),
-            })?;
-        }
-        Ok(Items::from_vec(binders))
+// Whether so many parts are wanted.
+fn fits(least: usize, most: Option<usize>, parts: usize) -> bool
+    ensures { result ≡ fits least most parts }
+{
+    match most {
+        None => least <= parts,
+        Some(most) => least <= parts && parts <= most,
     }
+}
+
+fn assignment<'a>(parts: &'a [Form]) -> Parts<'a>
+    ensures { split_of result ≡ assignment_by (forms_of parts.now) }
+{
+    let Some((variable, others)) = first_of(parts) else {
+        return Parts::Misshapen;
+    };
+    match (variable.symbol(), only(others)) {
+        (Some(variable), Some(value)) => Parts::Assignment { variable, value },
+        _ => Parts::Misshapen,
+    }
+}
+
+fn bindings<'a>(parts: &'a [Form]) -> Parts<'a>
+    ensures { split_of result ≡ bindings_by (forms_of parts.now) }
+{
+    let Some((binds, body)) = first_of(parts) else {
+        return Parts::Misshapen;
+    };
+    match binds.items() {
+        Some(binds) => Parts::Bindings { binds, body },
+        None => Parts::Misshapen,
+    }
+}
+
+fn form_and_bindings<'a>(parts: &'a [Form]) -> Parts<'a>
+    ensures { split_of result ≡ form_and_bindings_by (forms_of parts.now) }
+{
+    let Some((form, others)) = first_of(parts) else {
+        return Parts::Misshapen;
+    };
+    match bindings(others) {
+        Parts::Bindings { binds, body } => Parts::FormAndBindings { form, binds, body },
+        _ => Parts::Misshapen,
+    }
+}
+
+fn parameters<'a>(parts: &'a [Form]) -> Parts<'a>
+    ensures { split_of result ≡ parameters_by (forms_of parts.now) }
+{
+    match first_of(parts) {
+        Some((params, body)) => Parts::Parameters { params, body },
+        None => Parts::Misshapen,
+    }
+}
+
+fn form_and_parameters<'a>(parts: &'a [Form]) -> Parts<'a>
+    ensures { split_of result ≡ form_and_parameters_by (forms_of parts.now) }
+{
+    let Some((form, others)) = first_of(parts) else {
+        return Parts::Misshapen;
+    };
+    match first_of(others) {
+        Some((params, body)) => Parts::FormAndParameters { form, params, body },
+        None => Parts::Misshapen,
+    }
+}
+
+fn definition<'a>(parts: &'a [Form]) -> Parts<'a>
+    ensures { split_of result ≡ definition_by (forms_of parts.now) }
+{
+    let Some((name, others)) = first_of(parts) else {
+        return Parts::Misshapen;
+    };
+    let Some((params, body)) = first_of(others) else {
+        return Parts::Misshapen;
+    };
+    match name.symbol() {
+        Some(name) => Parts::Definition { name, params, body },
+        None => Parts::Misshapen,
+    }
+}
+
+/// A binding.
+#[derive(Clone, Copy)]
+pub struct Bind<'a> {
+    pub variable: Symbol,
+    pub value: Option<&'a Form>,
+}
+
+/// What a form binds, as `(v e)`, `(v)` or `v`.
+pub fn bind_of(form: &Form) -> Option<Bind>
+    ensures { MatchOption result (bind_in (form_of form.now) ≡ None)
+        (λ b. bind_in (form_of form.now) ≡ Some ((b.variable.at.0, b.variable.number), option_map (λ e. form_of e.now) b.value)) }
+{
+    if let Form::Atom { .. } = form {
+        let variable = form.symbol()?;
+        return Some(Bind {
+            variable,
+            value: None,
+        });
+    }
+    let (variable, others) = form.operation()?;
+    with_value(variable, others)
+}
+
+// A variable, and its value where it has one.
+fn with_value<'a>(variable: Symbol, others: &'a [Form]) -> Option<Bind<'a>>
+    ensures { MatchOption result (with_value (variable.at.0, variable.number) (forms_of others.now) ≡ None)
+        (λ b. with_value (variable.at.0, variable.number) (forms_of others.now)
+        ≡ Some ((b.variable.at.0, b.variable.number), option_map (λ e. form_of e.now) b.value)) }
+{
+    let Some((value, rest)) = first_of(others) else {
+        return Some(Bind {
+            variable,
+            value: None,
+        });
+    };
+    match first_of(rest) {
+        Some(_) => None,
+        None => Some(Bind {
+            variable,
+            value: Some(value),
+        }),
+    }
+}
+
+/// The test of a clause, and its other forms.
+pub fn clause_of(form: &Form) -> Option<(&Form, &[Form])>
+    ensures { MatchOption result (clause_in (form_of form.now) ≡ None)
+        (λ c. clause_in (form_of form.now) ≡ Some (form_of c.0.now, forms_of c.1.now)) }
+{
+    first_of(form.proper_items()?)
 }

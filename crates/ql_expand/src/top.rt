@@ -1,63 +1,89 @@
 //! Top forms, and the program that they make.
 
-ghost use Rattle.std.specs.Prelude.{◌≡◌, ℕ, ◌++◌, List, IfOk, OnOk, map, length, false};
+ghost use Rattle.std.specs.Prelude.{◌≡◌, ◌++◌, [], ℕ, List, IfOk, OnOk, length, map};
 ghost use Rattle.ql_forms.specs.View.{form_of, forms_of};
-ghost use Rattle.ql_expand.specs.Core.{Cores, Function as Defined, joined_cores};
-ghost use Rattle.ql_expand.specs.ExpandFault.{place_of};
-ghost use Rattle.ql_expand.specs.Expansion.{expanded, expansion_of, function_core, new_core, definition_top, global_top, top_of, with_function, with_global, with_core};
-ghost use Rattle.ql_expand.specs.Top.{top_value};
-ghost use Rattle.ql_expand.specs.View.{letters, core_of, cores_of, function_of, program_of};
+ghost use Rattle.ql_expand.specs.Building.{IsFine, IsFineSplit};
+ghost use Rattle.ql_expand.specs.Core.{Cores, Function as Defined, core, defvar, joined_cores};
+ghost use Rattle.ql_expand.specs.ExpandFault.{source_faults};
+ghost use Rattle.ql_expand.specs.Expands.{ExpandsTo, TopForms, applied};
+ghost use Rattle.ql_expand.specs.Operator.{operator_of};
+ghost use Rattle.ql_expand.specs.Parts.{assignment_by, definition_by};
+ghost use Rattle.ql_expand.specs.ProgramView.{program_of};
+ghost use Rattle.ql_expand.specs.Tops.{Adds, IsFineTop, with_core, with_function, with_global};
+ghost use Rattle.ql_expand.specs.View.{core_of, cores_of, function_of};
+ghost use Rattle.ql_expand.specs.declared.operator.Operator.TheVariants.{Defun, Defvar};
 
-use crate::form::{Symbol, letters, offset_of, operation_in, symbol_in};
-use crate::make::Builder;
+use crate::build::{body, boxed, expanded, parameters};
+use crate::core_form::{Core, Function, Node};
+use crate::laws::expanded_numbers;
 use crate::operator::{Operator, operator_of};
-use crate::program::{Core, Function, Program};
+use crate::parts::{Parts, parts_of};
+use crate::program::Program;
 use ql_base::numbers::Offset;
-use ql_forms::form::{Form, Text};
-use sqlite_items::Items;
+use ql_forms::form::{Form, Symbol};
+use ql_forms::text::Text;
+use sqlite_items::{Boxed, Items};
 use std::alloc::{AllocError, Global};
 
 /// What a top form adds to a program.
 #[derive(Drop)]
-pub enum Top {
-    Function(Function),
+pub enum Top<'a> {
+    Function(Function<'a>),
     /// The number of a global's name, and the core that gives it a value.
-    Global(u32, Core),
-    Core(Core),
+    Global(u32, Core<'a>),
+    Core(Core<'a>),
 }
 
-/// The program that forms make. Of forms at fault it is some program.
-pub fn program_of_forms(alloc: Global, text: &Text) -> Result<Program, AllocError>
-    ensures program { IfOk result (λ p. program_of text.now.names p ≡ expansion_of (forms_of text.now.names text.now.forms)) }
+/// What the top forms so far make.
+#[derive(Drop)]
+pub struct Tops<'a> {
+    pub functions: Items<Function<'a>>,
+    pub globals: Items<u32>,
+    pub body: Items<Core<'a>>,
+}
+
+/// The program of forms that have no fault.
+pub fn program_of_text<'a>(alloc: Global, text: &'a Text) -> Result<Program<'a>, AllocError>
+    requires { source_faults text.now.names (forms_of text.now.forms) ≡ [] }
+    ensures expands { IfOk result (λ p. ExpandsTo (forms_of text.now.forms) (program_of p)) }
     ensures names { IfOk result (λ p. p.names ≡ length text.now.names) }
 {
-    let builder = Builder {
-        alloc,
-        names: &text.names,
-    };
-    let body = Vec::with_capacity(alloc, text.forms.len())?;
-    let mut program = Program {
-        functions: Items::new(alloc),
-        globals: Items::new(alloc),
-        body: Items::from_vec(body),
-        names: text.names.len(),
-    };
-    for form in text.forms.as_slice() {
-        program.add(builder.top(form)?)?;
-    }
-    Ok(program)
+    // A law that the program's own fact rests on; the call does nothing.
+    expanded_numbers();
+    let names = text.names.len();
+    let tops = tops_of(alloc, text)?;
+    Ok(Program {
+        functions: tops.functions,
+        globals: tops.globals,
+        body: tops.body,
+        names,
+    })
 }
 
-impl Program {
+// What the top forms of a source make.
+fn tops_of<'a>(alloc: Global, text: &'a Text) -> Result<Tops<'a>, AllocError>
+    requires { source_faults text.now.names (forms_of text.now.forms) ≡ [] }
+    ensures { IfOk result (λ t. TopForms (forms_of text.now.forms) (map function_of t.functions) t.globals (cores_of t.body)) }
+{
+    let mut tops = Tops {
+        functions: Items::new(alloc),
+        globals: Items::new(alloc),
+        body: Items::new(alloc),
+    };
+    let forms = text.forms.as_slice();
+    for form in forms {
+        let top = added_by(alloc, form)?;
+        tops.add(top)?;
+    }
+    Ok(tops)
+}
+
+impl<'a> Tops<'a> {
     // Adds what a top form adds, last.
-    fn add(&mut self, top: Top) -> Result<(), AllocError>
-        ensures functions { (names : List (List ℕ)) (after : List Defined) → OnOk result
-            (map (function_of names) self.new.functions ++ after ≡ map (function_of names) self.old.functions ++ with_function (top_value names top) after) }
-        ensures globals { (names after : List (List ℕ)) → OnOk result
-            (map (letters names) self.new.globals ++ after ≡ map (letters names) self.old.globals ++ with_global (top_value names top) after) }
-        ensures body { (names : List (List ℕ)) (after : Cores) → OnOk result
-            (joined_cores (cores_of names self.new.body) after ≡ joined_cores (cores_of names self.old.body) (with_core (top_value names top) after)) }
-        ensures names { self.new.names ≡ self.old.names }
+    fn add(&mut self, top: Top<'a>) -> Result<(), AllocError>
+        ensures functions { (after : List Defined) → OnOk result (map function_of self.new.functions ++ after ≡ map function_of self.old.functions ++ with_function top.entry after) }
+        ensures globals { (after : List ℕ) → OnOk result (self.new.globals ++ after ≡ self.old.globals ++ with_global top.entry after) }
+        ensures body { (after : Cores) → OnOk result (joined_cores (cores_of self.new.body) after ≡ joined_cores (cores_of self.old.body) (with_core top.entry after)) }
     {
         match top {
             Top::Function(function) => self.functions.push(function),
@@ -70,79 +96,76 @@ impl Program {
     }
 }
 
-impl<'a> Builder<'a> {
-    // What a top form adds.
-    fn top(&self, form: &Form) -> Result<Top, AllocError>
-        ensures { IfOk result (λ t. top_value self.now.names.now t ≡ top_of (form_of self.now.names.now form.now)) }
-    {
-        let Some((operator, parts)) = operation_in(form) else {
-            return self.core_top(form);
-        };
-        match operator_of(letters(self.names, operator.number)) {
-            Operator::Defun => self.definition_top(form, parts),
-            Operator::Defvar => self.global_top(form, parts),
-            _ => self.core_top(form),
-        }
+// What a top form adds.
+fn added_by<'a>(alloc: Global, form: &'a Form) -> Result<Top<'a>, AllocError>
+    requires { IsFineTop (form_of form.now) }
+    ensures { IfOk result (λ t. Adds (form_of form.now) t) }
+{
+    let Some((head, parts)) = form.operation() else {
+        return plain(alloc, form);
+    };
+    match operator_of(head.number) {
+        Operator::Defun => definition(alloc, form.offset(), parts),
+        Operator::Defvar => global(alloc, form.offset(), parts),
+        _ => plain(alloc, form),
     }
+}
 
-    // A form that defines nothing.
-    fn core_top(&self, form: &Form) -> Result<Top, AllocError>
-        ensures { IfOk result (λ t. top_value self.now.names.now t ≡ new_core (expanded false (form_of self.now.names.now form.now))) }
-    {
-        let core = self.expanded(false, form)?;
-        Ok(Top::Core(core))
-    }
+// A form that defines nothing.
+fn plain<'a>(alloc: Global, form: &'a Form) -> Result<Top<'a>, AllocError>
+    requires { IsFine (form_of form.now) }
+    ensures { IfOk result (λ t. Adds (form_of form.now) t) }
+{
+    let core = expanded(alloc, false, form)?;
+    Ok(Top::Core(core))
+}
 
-    // A defun form with these parts.
-    fn definition_top(&self, form: &Form, parts: &[Form]) -> Result<Top, AllocError>
-        ensures { IfOk result (λ t. top_value self.now.names.now t ≡ definition_top (place_of (form_of self.now.names.now form.now))
-            (forms_of self.now.names.now parts.now) (expanded false (form_of self.now.names.now form.now))) }
-    {
-        let Some((name, others)) = self.split_first(parts) else {
-            return self.core_top(form);
-        };
-        let Some(symbol) = symbol_in(name) else {
-            return self.core_top(form);
-        };
-        let function = self.function(offset_of(form), symbol, others)?;
-        Ok(Top::Function(function))
-    }
+// A `defun` form with these parts.
+fn definition<'a>(alloc: Global, at: Offset, parts: &'a [Form]) -> Result<Top<'a>, AllocError>
+    requires { IsFineSplit (definition_by (forms_of parts.now)) }
+    ensures { (o w : ℕ) → operator_of w ≡ Defun → IfOk result (λ t. Adds (applied at.0 o w (forms_of parts.now)) t) }
+{
+    let Parts::Definition {
+        name,
+        params,
+        body: forms,
+    } = parts_of(Operator::Defun, parts)
+    else {
+        unreachable!()
+    };
+    let params = parameters(alloc, params)?;
+    let body = body(alloc, at, forms)?;
+    Ok(Top::Function(Function {
+        name: name.number,
+        at,
+        named: name.at,
+        params,
+        body,
+    }))
+}
 
-    // A defvar form with these parts.
-    fn global_top(&self, form: &Form, parts: &[Form]) -> Result<Top, AllocError>
-        ensures { IfOk result (λ t. top_value self.now.names.now t ≡ global_top (place_of (form_of self.now.names.now form.now))
-            (forms_of self.now.names.now parts.now) (expanded false (form_of self.now.names.now form.now))) }
-    {
-        let Some((symbol, value)) = self.assignment_in(parts) else {
-            return self.core_top(form);
-        };
-        let value = self.boxed(value)?;
-        let core = self.defvar(offset_of(form), symbol, value);
-        Ok(Top::Global(symbol.number, core))
-    }
+// A `defvar` form with these parts.
+fn global<'a>(alloc: Global, at: Offset, parts: &'a [Form]) -> Result<Top<'a>, AllocError>
+    requires { IsFineSplit (assignment_by (forms_of parts.now)) }
+    ensures { (o w : ℕ) → operator_of w ≡ Defvar → IfOk result (λ t. Adds (applied at.0 o w (forms_of parts.now)) t) }
+{
+    let Parts::Assignment { variable, value } = parts_of(Operator::Defvar, parts) else {
+        unreachable!()
+    };
+    let value = boxed(alloc, value)?;
+    Ok(Top::Global(variable.number, defvar(at, variable, value)))
+}
 
-    // The function of this name, with its parameters and body as parts.
-    fn function(&self, at: Offset, name: Symbol, parts: &[Form]) -> Result<Function, AllocError>
-        ensures { IfOk result (λ f. function_of self.now.names.now f
-            ≡ function_core at.0 (letters self.now.names.now name.number) name.at.0 (forms_of self.now.names.now parts.now)) }
-    {
-        let Some((parameters, forms)) = self.split_first(parts) else {
-            return Ok(Function {
-                name: name.number,
-                at,
-                named: name.at,
-                params: Items::new(self.alloc),
-                body: self.nil_core(at),
-            });
-        };
-        let params = self.parameters_of(parameters)?;
-        let body = self.body(at, forms)?;
-        Ok(Function {
-            name: name.number,
-            at,
-            named: name.at,
-            params,
-            body,
-        })
+// A global and its first value.
+fn defvar<'a>(at: Offset, variable: Symbol, value: Boxed<Core<'a>>) -> Core<'a>
+    ensures { core_of result ≡ core at.0 (defvar variable.number variable.at.0 (core_of value.entry)) }
+{
+    Core {
+        at,
+        node: Node::Defvar {
+            name: variable.number,
+            named: variable.at,
+            value,
+        },
     }
 }

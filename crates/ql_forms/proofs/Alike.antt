@@ -1,6 +1,6 @@
 -- Where a form stands doesn't show in its text.
 use Rattle.std.proofs.Common.{◌≡◌, ◌++◌, [], ◌∷◌, refl, ap, sym, ◌∙◌}
-use Rattle.ql_forms.specs.Form.{Form, atom, list, Forms, none, more}
+use Rattle.ql_forms.specs.Spelled.{Form, atom, list, Forms, none, more}
 use Rattle.ql_forms.specs.FormText.{form_text, items_text, others_text, tail_text, without_places, all_without_places}
 
 mutual

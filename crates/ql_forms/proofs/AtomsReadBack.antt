@@ -5,7 +5,7 @@ use Rattle.std.specs.Fmt.{decimal}
 use Rattle.std.proofs.lemmas.Str.Parse.{IsDigitsTest, FoldsDigits, IsNumeralModel, numerals_by_fold}
 use Rattle.std.proofs.lemmas.Fmt.{decimal_is_IsNumeral}
 use Rattle.ql_forms.specs.Bytes.{is_atom}
-use Rattle.ql_forms.specs.Form.{Atom, integer, symbol, atom}
+use Rattle.ql_forms.specs.Spelled.{Atom, integer, symbol, atom}
 use Rattle.ql_forms.specs.FormText.{AreAtomBytes, HasSpelling, atom_text}
 use Rattle.ql_forms.specs.Spells.{AreDigits, value_from, most, signed, HasSign, no_sign, a_minus, IsAtom, a_symbol, an_integer, nothing, AfterAtom, Run, ends, goes_on, IsForm, an_atom}
 use Rattle.ql_forms.proofs.Bytes.{digit_in_range, digit_from_range}

@@ -2,7 +2,7 @@
 use Rattle.std.proofs.Common.{◌≡◌, refl, arith, pos, negsuc}
 use Rattle.std.specs.Prelude.{codes}
 use Rattle.std.specs.Fmt.{digits}
-use Rattle.ql_forms.specs.Form.{Atom, integer, symbol, proper, dotted, Form, atom, list, none, more}
+use Rattle.ql_forms.specs.Spelled.{Atom, integer, symbol, proper, dotted, Form, atom, list, none, more}
 use Rattle.ql_forms.specs.FormText.{form_text}
 use Rattle.ql_forms.specs.Spells.{Spells, nothing, a_blank, a_comment, beyond, at_line_feed, ends, goes_on, a_symbol, an_integer, a_minus, an_atom, a_list, a_quote, closed, an_item, a_tail, ended, a_form}
 

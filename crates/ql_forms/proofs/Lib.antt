@@ -1,3 +1,4 @@
+mod Below
 mod Written
 mod Spelled
 mod Bytes
@@ -5,3 +6,4 @@ mod AtomsReadBack
 mod ReadsBack
 mod Alike
 mod Examples
+mod SameNumbers

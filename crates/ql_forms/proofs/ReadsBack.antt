@@ -2,7 +2,7 @@
 use Rattle.std.proofs.Common.{◌≡◌, ℕ, ◌+◌, true, List, [], ◌∷◌, ◌++◌, refl, ap, sym, ◌∙◌, subst, append_assoc, append-nil}
 use Rattle.std.specs.Prelude.{if◌then◌else◌}
 use Rattle.ql_forms.specs.Bytes.{class, blank}
-use Rattle.ql_forms.specs.Form.{Tail, proper, dotted, Form, atom, list, Forms, none, more, Ending, plain, with_tail, tail_of, list_form}
+use Rattle.ql_forms.specs.Spelled.{Tail, proper, dotted, Form, atom, list, Forms, none, more, Ending, plain, with_tail, tail_of, list_form}
 use Rattle.ql_forms.specs.FormText.{tail_text, form_text, others_text, forms_text, without_places, all_without_places, IsTail, CanBeSpelled, AllCanBeSpelled}
 use Rattle.ql_forms.specs.Spells.{nothing, a_blank, AfterAtom, IsForm, an_atom, a_list, a_quote, AreItems, closed, an_item, a_tail, AreForms, ended, a_form}
 use Rattle.ql_forms.proofs.AtomsReadBack.{atom_reads_back}

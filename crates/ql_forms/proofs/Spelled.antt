@@ -2,7 +2,7 @@
 use Rattle.std.proofs.Common.{◌≡◌, ℕ, ◌+◌, ◌<◌, ◌≤◌, Bool, true, false, List, [], ◌∷◌, length, arith, refl, FitsSigned, zero, suc}
 use Rattle.std.proofs.lemmas.Int.{ints}
 use Rattle.std.specs.Int.{w64}
-use Rattle.ql_forms.specs.Form.{Atom, symbol, Form, atom, list, Forms, none, more, nil, is_nil, joined, Ending, plain, with_tail, tail_of, with_last, list_form, quote_form}
+use Rattle.ql_forms.specs.Spelled.{Atom, symbol, Form, atom, list, Forms, none, more, nil, is_nil, joined, Ending, plain, with_tail, tail_of, with_last, list_form, quote_form}
 use Rattle.ql_forms.specs.FormText.{AreAtomBytes, HasSpelling, IsTail, CanBeSpelled, AllCanBeSpelled}
 use Rattle.ql_forms.specs.Spells.{most, signed, IsAtom, a_symbol, an_integer, Run, ends, goes_on, IsForm, an_atom, a_list, a_quote, AreItems, closed, an_item, a_tail, AreForms, ended, a_form}
 

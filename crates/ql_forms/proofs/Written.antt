@@ -3,9 +3,9 @@ use Rattle.std.proofs.Common.{◌≡◌, ◌++◌, ◌<◌, ◌≤◌, ◌+◌, 
 use Rattle.std.proofs.lemmas.List.{take-append-le, take-append-drop, length-take, drop_all}
 use Rattle.std.proofs.lemmas.Result.{on_err_weaker}
 use Rattle.std.proofs.Math.Seq.{drop-cons}
-use Rattle.ql_forms.specs.Form.{Form, Forms, more}
+use Rattle.ql_forms.specs.Spelled.{Form, Forms, more}
 use Rattle.ql_forms.specs.FormText.{form_text, items_text, others_text}
-use Rattle.ql_forms.specs.View.{form_of, forms_of}
+use Rattle.ql_forms.specs.View.{spelling_of, spellings_of}
 use Rattle.ql_forms.specs.declared.form.Form.{Form as Value}
 
 -- the text of the items that are left, where the first of all is among them or isn't
@@ -23,15 +23,15 @@ pub front_on : (a b c : List ℕ) → take (length a) b ≡ a → take (length b
 front_on a b c h e = front_more a b c (drop (length b) c) h (sym (take-append-drop (length b) c) ∙ ap (λ z. z ++ drop (length b) c) e)
 
 pub next_of : (names : List (List ℕ)) (items : List Value) (i : ℕ) (x : Value) → i < length items → x ≡ get_or items i x
-    → forms_of names (drop i items) ≡ more (form_of names x) (forms_of names (drop (i + 1) items))
+    → spellings_of names (drop i items) ≡ more (spelling_of names x) (spellings_of names (drop (i + 1) items))
 next_of names items i x lt e =
     let here : drop i items ≡ get_or items i x ∷ drop (i + 1) items = rw add-one (drop-cons items i x lt) in
-    ap (forms_of names) here ∙ ap (λ y. more (form_of names y) (forms_of names (drop (i + 1) items))) (sym e)
+    ap (spellings_of names) here ∙ ap (λ y. more (spelling_of names y) (spellings_of names (drop (i + 1) items))) (sym e)
 
 pub all_done : (names : List (List ℕ)) (items : List Value) (i : ℕ) (is_first : Bool) (to all : List ℕ) → length items ≤ i
-    → to ++ rest_text is_first (forms_of names (drop i items)) ≡ all → to ≡ all
-all_done names items i true to all le h = sym (append-nil to) ∙ sym (ap (λ z. to ++ items_text (forms_of names z)) (drop_all i items le)) ∙ h
-all_done names items i false to all le h = sym (append-nil to) ∙ sym (ap (λ z. to ++ others_text (forms_of names z)) (drop_all i items le)) ∙ h
+    → to ++ rest_text is_first (spellings_of names (drop i items)) ≡ all → to ≡ all
+all_done names items i true to all le h = sym (append-nil to) ∙ sym (ap (λ z. to ++ items_text (spellings_of names z)) (drop_all i items le)) ∙ h
+all_done names items i false to all le h = sym (append-nil to) ∙ sym (ap (λ z. to ++ others_text (spellings_of names z)) (drop_all i items le)) ∙ h
 
 -- the first item was written
 pub first_done : (f : Form) (fs rest : Forms) (to new all : List ℕ) → rest ≡ more f fs → to ++ rest_text true rest ≡ all → new ≡ to ++ form_text f

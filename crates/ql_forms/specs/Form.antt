@@ -1,10 +1,9 @@
--- Forms with the letters of their symbols, each with the offset of its first byte.
-use Rattle.std.specs.Prelude.{ℕ, Bool, false, if◌then◌else◌, ℤ, List, [], ◌∷◌, ◌++◌, codes}
-use Rattle.std.specs.Str.{bytes_eq}
+-- Data, with the numbers of their symbols in a table of names, each with the offset of its first byte.
+use Rattle.std.specs.Prelude.{ℕ, ◌+◌, ℤ, Bool, true, false, ◌==◌, ◌&&◌, nat_lt, if◌then◌else◌, Option, Some, None}
 
 pub data Atom : Type 0 where
   integer : ℤ → Atom
-  symbol : (letters : List ℕ) → Atom
+  symbol : (number : ℕ) → Atom
 
 -- what stands after the last item of a list: nothing, or a dot and an atom
 pub data Tail : Type 0 where
@@ -20,54 +19,63 @@ mutual
     none : Forms
     more : Form → Forms → Forms
 
+-- Nil is the first reserved word.
 abbrev pub nil : Atom
-nil = symbol (codes "nil")
+nil = symbol 0
 
 abbrev pub is_nil : Atom → Bool
 is_nil (integer z) = false
-is_nil (symbol w) = bytes_eq w (codes "nil")
+is_nil (symbol n) = n == 0
 
-abbrev pub joined : Forms → Forms → Forms
-joined none gs = gs
-joined (more f fs) gs = more f (joined fs gs)
+-- the offset of a form
+abbrev pub place_of : Form → ℕ
+place_of (atom at a) = at
+place_of (list at fs t) = at
 
--- how a text ends a list: at once, or with a dot and a form
-pub data Ending : Type 0 where
-  plain : Ending
-  with_tail : Form → Ending
+abbrev pub atom_below : ℕ → Atom → Bool
+atom_below count (integer z) = true
+atom_below count (symbol n) = nat_lt n count
 
-abbrev pub tail_of : Atom → Tail
-tail_of a = if is_nil a then proper else dotted a
-
--- Items with a last form as their tail: nil makes a proper list, and a list is joined.
-abbrev pub with_last : ℕ → Forms → Form → Form
-with_last at fs (atom o a) = list at fs (tail_of a)
-with_last at fs (list o gs t) = list at (joined fs gs) t
-
--- the form that a pair of parentheses makes
-abbrev pub list_form : ℕ → Forms → Ending → Form
-list_form at none e = atom at nil
-list_form at (more f fs) plain = list at (more f fs) proper
-list_form at (more f fs) (with_tail g) = with_last at (more f fs) g
-
--- the form that a quote mark makes, with two items at the offset of the mark
-abbrev pub quote_form : ℕ → Form → Form
-quote_form at f = list at (more (atom at (symbol (codes "quote"))) (more f none)) proper
-
-abbrev pub letters_of : Atom → List (List ℕ)
-letters_of (integer z) = []
-letters_of (symbol w) = w ∷ []
-
-abbrev pub letters_in_tail : Tail → List (List ℕ)
-letters_in_tail proper = []
-letters_in_tail (dotted a) = letters_of a
+abbrev pub tail_below : ℕ → Tail → Bool
+tail_below count proper = true
+tail_below count (dotted a) = atom_below count a
 
 abbrev mutual
-  -- the letters of the symbols, in the order in which they stand in a text
-  pub symbols_of : Form → List (List ℕ)
-  symbols_of (atom at a) = letters_of a
-  symbols_of (list at fs t) = symbols_in fs ++ letters_in_tail t
+  -- whether each number of a symbol is below this count of names
+  pub form_below : ℕ → Form → Bool
+  form_below count (atom at a) = atom_below count a
+  form_below count (list at fs t) = forms_below count fs && tail_below count t
 
-  pub symbols_in : Forms → List (List ℕ)
-  symbols_in none = []
-  symbols_in (more f fs) = symbols_of f ++ symbols_in fs
+  pub forms_below : ℕ → Forms → Bool
+  forms_below count none = true
+  forms_below count (more f fs) = form_below count f && forms_below count fs
+
+abbrev pub is_atom : Form → Bool
+is_atom (atom at a) = true
+is_atom (list at fs t) = false
+
+-- the offset and the number of a symbol
+abbrev pub symbol_in : Form → Option (ℕ × ℕ)
+symbol_in (atom at (symbol n)) = Some (at, n)
+symbol_in _ = None
+
+-- the items of a proper list
+abbrev pub proper_items : Form → Option Forms
+proper_items (list at fs proper) = Some fs
+proper_items _ = None
+
+-- the symbol at the head of a proper list, and the forms after it
+abbrev pub operation_in : Form → Option ((ℕ × ℕ) × Forms)
+operation_in (list at (more (atom o (symbol n)) parts) proper) = Some ((o, n), parts)
+operation_in _ = None
+
+-- the items of a proper list, which are none for nil
+abbrev pub items_of : Form → Option Forms
+items_of (list at fs proper) = Some fs
+items_of (atom at a) = if is_nil a then Some none else None
+items_of _ = None
+
+-- how many there are
+abbrev pub count : Forms → ℕ
+count none = 0
+count (more f fs) = count fs + 1

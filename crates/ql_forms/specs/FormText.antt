@@ -3,7 +3,7 @@ use Rattle.std.specs.Prelude.{◌≡◌, ◌≤◌, ◌<◌, ℕ, ◌+◌, true,
 use Rattle.std.specs.Int.{w64}
 use Rattle.std.specs.Fmt.{signed_decimal}
 use Rattle.ql_forms.specs.Bytes.{class, is_atom}
-use Rattle.ql_forms.specs.Form.{Atom, integer, symbol, Tail, proper, dotted, Form, atom, list, Forms, none, more, is_nil}
+use Rattle.ql_forms.specs.Spelled.{Atom, integer, symbol, Tail, proper, dotted, Form, atom, list, Forms, none, more, is_nil}
 use Rattle.ql_forms.specs.Spells.{is_numeric}
 
 -- a decimal integer, or a symbol's name

@@ -1,8 +1,7 @@
 -- Which forms a text spells. A relation by cases on whole texts, which computes nothing.
 use Rattle.std.specs.Prelude.{◌≡◌, ◌≤◌, ◌<◌, ℕ, ◌+◌, ◌-◌, ◌*◌, ◌==◌, Bool, true, false, if◌then◌else◌, List, [], ◌∷◌, length, ℤ, pos, neg_ℤ}
-use Rattle.ql_base.specs.Names.{reserved, with_names}
 use Rattle.ql_forms.specs.Bytes.{Class, blank, digit, plus, minus, opening, closing, mark, semicolon, dot, class, is_digit, is_atom, ends_atom, begins_tail}
-use Rattle.ql_forms.specs.Form.{Atom, integer, symbol, Form, atom, Forms, none, more, Ending, plain, with_tail, list_form, quote_form, symbols_in}
+use Rattle.ql_forms.specs.Spelled.{Atom, integer, symbol, Form, atom, Forms, none, more, Ending, plain, with_tail, list_form, quote_form}
 
 abbrev pub starts_digit : List ℕ → Bool
 starts_digit [] = false
@@ -102,7 +101,3 @@ pub data AreForms : ℕ → List ℕ → Forms → Type 0 where
 -- the text spells these forms
 abbrev pub Spells : List ℕ → Forms → Type 0
 Spells b fs = AreForms 0 b fs
-
--- the names are the reserved words, and then the other symbols in the order in which they first stand
-abbrev pub Numbered : Forms → List (List ℕ) → Type 0
-Numbered fs names = names ≡ with_names reserved (symbols_in fs)

@@ -5,4 +5,5 @@ pub mod form;
 pub mod laws;
 #[cfg(test)]
 mod tests;
+pub mod text;
 pub mod write;

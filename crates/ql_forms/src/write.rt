@@ -1,8 +1,9 @@
 //! The one text that spells a form.
 
-ghost use Rattle.std.specs.Prelude.{◌≡◌, ◌++◌, OnOk, OnErr, length, take, slice_index_or, []};
+ghost use Rattle.std.specs.Prelude.{◌≡◌, ◌++◌, OnOk, OnErr, length, take};
 ghost use Rattle.ql_forms.specs.FormText.{form_text, items_text, others_text, tail_text, atom_text};
-ghost use Rattle.ql_forms.specs.View.{form_of, forms_of, atom_of, tail_told};
+ghost use Rattle.ql_forms.specs.Numbered.{spelled_atom, spelled_tail};
+ghost use Rattle.ql_forms.specs.View.{spelling_of, spellings_of, atom_of, tail_of};
 
 use crate::form::{Atom, Form};
 use itoa::Buffer;
@@ -19,7 +20,7 @@ pub fn write_form(
     names: &Names,
     to: &mut Vec<u8>,
 ) -> Result<(), AllocError>
-    ensures ok { OnOk result (to.new.items ≡ to.old.items ++ form_text (form_of names.now form.now)) }
+    ensures ok { OnOk result (to.new.items ≡ to.old.items ++ form_text (spelling_of names.now form.now)) }
     ensures err { OnErr result (to.new.items ≡ to.old.items) }
 {
     // `to` grows in an allocator of its own.
@@ -34,7 +35,7 @@ pub fn write_form(
 
 #[cycle(put)]
 fn put_form(to: &mut Vec<u8>, form: &Form, names: &Names) -> Result<(), AllocError>
-    ensures ok { OnOk result (to.new.items ≡ to.old.items ++ form_text (form_of names.now form.now)) }
+    ensures ok { OnOk result (to.new.items ≡ to.old.items ++ form_text (spelling_of names.now form.now)) }
     ensures err { OnErr result (take (length to.old.items) to.new.items ≡ to.old.items) }
 {
     match form {
@@ -51,7 +52,7 @@ fn put_form(to: &mut Vec<u8>, form: &Form, names: &Names) -> Result<(), AllocErr
 
 #[cycle(put)]
 fn put_items(to: &mut Vec<u8>, items: &[Form], names: &Names) -> Result<(), AllocError>
-    ensures ok { OnOk result (to.new.items ≡ to.old.items ++ items_text (forms_of names.now items.now)) }
+    ensures ok { OnOk result (to.new.items ≡ to.old.items ++ items_text (spellings_of names.now items.now)) }
     ensures err { OnErr result (take (length to.old.items) to.new.items ≡ to.old.items) }
 {
     let mut is_first = true;
@@ -66,7 +67,7 @@ fn put_items(to: &mut Vec<u8>, items: &[Form], names: &Names) -> Result<(), Allo
 }
 
 fn put_tail(to: &mut Vec<u8>, tail: Option<Atom>, names: &Names) -> Result<(), AllocError>
-    ensures ok { OnOk result (to.new.items ≡ to.old.items ++ tail_text (tail_told names.now tail)) }
+    ensures ok { OnOk result (to.new.items ≡ to.old.items ++ tail_text (spelled_tail names.now (tail_of tail))) }
     ensures err { OnErr result (take (length to.old.items) to.new.items ≡ to.old.items) }
 {
     match tail {
@@ -79,7 +80,7 @@ fn put_tail(to: &mut Vec<u8>, tail: Option<Atom>, names: &Names) -> Result<(), A
 }
 
 fn put_atom(to: &mut Vec<u8>, atom: Atom, names: &Names) -> Result<(), AllocError>
-    ensures ok { OnOk result (to.new.items ≡ to.old.items ++ atom_text (atom_of names.now atom)) }
+    ensures ok { OnOk result (to.new.items ≡ to.old.items ++ atom_text (spelled_atom names.now (atom_of atom))) }
     ensures err { OnErr result (to.new.items ≡ to.old.items) }
 {
     match atom {
@@ -87,17 +88,6 @@ fn put_atom(to: &mut Vec<u8>, atom: Atom, names: &Names) -> Result<(), AllocErro
             let mut digits = Buffer::new();
             to.extend_from_slice(digits.format(n).as_bytes())
         }
-        Atom::Sym(number) => to.extend_from_slice(name_of(names, number)),
-    }
-}
-
-// The name of this number. A number outside the table is seen with no letters.
-fn name_of(names: &Names, number: u32) -> &[u8]
-    ensures { result.now ≡ slice_index_or names.now number [] }
-{
-    if number < names.len() {
-        names.text(number)
-    } else {
-        b""
+        Atom::Sym(number) => to.extend_from_slice(names.letters(number)),
     }
 }

@@ -2,7 +2,7 @@
 use Rattle.std.proofs.Common.{◌≡◌, ℕ, ◌+◌, ◌==◌, Bool, true, false, List, [], ◌∷◌, ◌++◌, length, Option, Some, None, refl, sym, ap, ◌∙◌, subst, arith, inl, inr}
 use Rattle.std.specs.Prelude.{ltb, if◌then◌else◌}
 use Rattle.ql_forms.specs.Bytes.{Class, blank, letter, digit, plus, minus, opening, closing, mark, semicolon, dot, other, class, is_atom}
-use Rattle.ql_forms.specs.Form.{Form, symbol, integer, quote_form, none, more, Atom}
+use Rattle.ql_forms.specs.Spelled.{Form, symbol, integer, quote_form, none, more, Atom}
 use Rattle.ql_forms.specs.Spells.{is_numeric, HasSign, no_sign, a_plus, a_minus, IsAtom, a_symbol, an_integer}
 use Rattle.ql_read.specs.TextFault.{Kind, stray_close, bad_dot, bad_number, long_name, too_deep, FaultsAt}
 use Rattle.ql_read.specs.Scan.{Token, of_symbol, of_sign, of_number, first, next, token_atom, token_form, token_kind, Stack, top, in_list, in_tail, past_tail, in_quote, depth, push, State, between, in_comment, in_atom, after_dot, bad, close, put_dot, form_in, step_between, atom_or_bad, step_atom, step_dot, step, scan, start}

@@ -2,7 +2,7 @@
 use Rattle.std.proofs.Common.{◌≡◌, ℕ, zero, suc, ◌+◌, ◌<◌, ◌≤◌, ◌==◌, Bool, true, false, List, [], ◌∷◌, ◌++◌, length, take, Option, Some, None, refl, sym, ap, ◌∙◌, subst, arith, length-append}
 use Rattle.std.specs.Prelude.{ltb, if◌then◌else◌}
 use Rattle.ql_forms.specs.Bytes.{Class, blank, letter, digit, plus, minus, opening, closing, mark, semicolon, dot, other, class}
-use Rattle.ql_forms.specs.Form.{none, more}
+use Rattle.ql_forms.specs.Spelled.{none, more}
 use Rattle.ql_read.specs.TextFault.{CanGoOn, Kind, FaultsAt}
 use Rattle.ql_read.specs.Scan.{Token, next, token_form, Stack, top, in_list, in_tail, past_tail, in_quote, depth, push, State, between, in_comment, in_atom, after_dot, bad, close, put_dot, form_in, step_between, atom_or_bad, step_atom, step_dot, step, scan, start, fault_of}
 use Rattle.ql_read.proofs.GoesOn.{scan_append, stays_bad, can_go_on, cannot}

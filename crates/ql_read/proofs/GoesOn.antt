@@ -1,6 +1,6 @@
 -- What has no fault can go on, and what has one cannot.
 use Rattle.std.proofs.Common.{◌≡◌, ℕ, ◌+◌, List, [], ◌∷◌, ◌++◌, Some, None, refl, ap, ◌∙◌}
-use Rattle.ql_forms.specs.Form.{Form, symbol, list_form, quote_form, Forms, none, more, plain, with_tail, atom}
+use Rattle.ql_forms.specs.Spelled.{Form, symbol, list_form, quote_form, Forms, none, more, plain, with_tail, atom}
 use Rattle.ql_forms.specs.Spells.{Spells}
 use Rattle.ql_read.specs.TextFault.{CanGoOn, Kind}
 use Rattle.ql_read.specs.Scan.{token_form, Stack, top, in_list, in_tail, past_tail, in_quote, onto, push, State, between, in_comment, in_atom, after_dot, bad, step, scan, start, finish, fault_of}

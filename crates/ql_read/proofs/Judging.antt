@@ -1,7 +1,7 @@
 -- Each text is refused or spells forms.
 use Rattle.std.proofs.Common.{◌≡◌, ℕ, zero, suc, ◌+◌, ◌<◌, ◌≤◌, List, [], ◌∷◌, ◌++◌, length, take, Option, Some, None, refl, sym, ap, ◌∙◌, subst, arith, ⊎_elim}
 use Rattle.std.proofs.lemmas.Bool.{cases_lt}
-use Rattle.ql_forms.specs.Form.{Forms}
+use Rattle.ql_forms.specs.Spelled.{Forms}
 use Rattle.ql_forms.specs.Spells.{Spells}
 use Rattle.ql_read.specs.TextFault.{CanGoOn, FaultsAt}
 use Rattle.ql_read.specs.Scan.{State, between, in_comment, in_atom, after_dot, bad, scan, start, fault_of}

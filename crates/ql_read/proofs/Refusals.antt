@@ -2,8 +2,10 @@
 use Rattle.std.proofs.Common.{◌≡◌, ℕ, zero, suc, ◌+◌, ◌<◌, ◌≤◌, List, [], ◌∷◌, ◌++◌, length, take, Some, None, refl, sym, ap, ◌∙◌, subst, arith, append_assoc, length-append, ⊎_elim, inl, inr}
 use Rattle.std.proofs.lemmas.Bool.{cases_lt}
 use Rattle.ql_forms.specs.Bytes.{Class, blank, letter, digit, plus, minus, opening, closing, mark, semicolon, dot, other, class}
-use Rattle.ql_forms.specs.Form.{Forms}
-use Rattle.ql_forms.specs.Spells.{Spells, Numbered}
+use Rattle.ql_forms.specs.Spelled.{Forms}
+use Rattle.ql_forms.specs.Form as numbered
+use Rattle.ql_forms.specs.Numbered.{Numbered}
+use Rattle.ql_forms.specs.Spells.{Spells}
 use Rattle.ql_read.specs.TextFault.{CanGoOn, FaultsAt, Kind, bad_byte, stray_close, bad_dot, bad_number, long_name, too_deep, number_of, too_long, unfinished, OpeningKind, HasKind, ByteFault, limit, NoneBelow, TextFault, by_byte, by_length, by_end, MayFollow, IsRefused, IsRead}
 use Rattle.ql_read.specs.Scan.{bad, scan, start, finish, fault_of}
 use Rattle.ql_read.proofs.Complete.{run, complete}
@@ -156,10 +158,10 @@ end_refused b h le e =
     append_none (x ∷ w) = ap (λ v. x ∷ v) (append_none w)
 
 -- reading ended with these forms
-pub read_all : (b : List ℕ) (fs : Forms) (names : List (List ℕ)) → length b ≤ limit → finish (scan start b) ≡ Some fs → Numbered fs names → IsRead b fs names
-read_all b fs names le e numbered =
+pub read_all : (b : List ℕ) (fs : Forms) (names : List (List ℕ)) (forms : numbered.Forms) → length b ≤ limit → finish (scan start b) ≡ Some fs → Numbered fs names forms → IsRead b forms names
+read_all b fs names forms le e numbers =
     let spells : Spells b fs = sound b fs e in
-    record { spells = spells; numbered = numbered; short = le; no_fault = λ k n f. fault_spells b k n fs spells le f; only = λ gs h. one_reading b gs fs h spells }
+    record { spelling = fs; spells = spells; numbered = numbers; short = le; no_fault = λ k n f. fault_spells b k n fs spells le f; only = λ gs h. one_reading b gs fs h spells }
 
 moved : (b r : List ℕ) (n : ℕ) → FaultsAt b n → FaultsAt (b ++ r) n
 moved b r n f =

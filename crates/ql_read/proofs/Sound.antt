@@ -3,7 +3,7 @@ use Rattle.std.proofs.Common.{◌≡◌, ℕ, ◌+◌, ◌==◌, Bool, true, fal
 use Rattle.std.specs.Prelude.{ltb, if◌then◌else◌}
 use Rattle.std.proofs.lemmas.Bool.{ltb-true}
 use Rattle.ql_forms.specs.Bytes.{Class, blank, letter, digit, plus, minus, opening, closing, mark, semicolon, dot, other, class, is_atom}
-use Rattle.ql_forms.specs.Form.{Form, list_form, quote_form, Forms, none, more, Ending, plain, with_tail}
+use Rattle.ql_forms.specs.Spelled.{Form, list_form, quote_form, Forms, none, more, Ending, plain, with_tail}
 use Rattle.ql_forms.specs.Spells.{Comment, at_end, at_line_feed, beyond, Gap, nothing, a_blank, a_comment, AfterAtom, Run, ends, goes_on, AfterDot, IsForm, an_atom, a_list, a_quote, AreItems, closed, an_item, a_tail, AreForms, ended, a_form, Spells}
 use Rattle.ql_read.specs.TextFault.{Kind, too_deep}
 use Rattle.ql_read.specs.Scan.{Token, first, next, token_form, Stack, top, in_list, in_tail, past_tail, in_quote, depth, onto, push, State, between, in_comment, in_atom, after_dot, bad, close, put_dot, form_in, step_between, atom_or_bad, step_atom, step_dot, step, start, whole, finish, has_any}

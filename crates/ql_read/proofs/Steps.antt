@@ -4,7 +4,7 @@ use Rattle.std.specs.Prelude.{if◌then◌else◌, ltb, IfOk, Result}
 use Rattle.std.specs.Global.{Vec}
 use Rattle.std.specs.declared.alloc.AllocError.{AllocError}
 use Rattle.ql_forms.specs.Bytes.{Class}
-use Rattle.ql_forms.specs.Form.{none}
+use Rattle.ql_forms.specs.Spelled.{none}
 use Rattle.ql_forms.specs.declared.form.Form.{Form as Value}
 use Rattle.ql_read.specs.ByteClass.{start_told}
 use Rattle.ql_read.specs.TextFault.{too_deep}

@@ -4,7 +4,7 @@ use Rattle.std.specs.Prelude.{if◌then◌else◌, ltb, codes}
 use Rattle.std.specs.Str.{bytes_eq}
 use Rattle.ql_base.specs.Names.{reserved, with_name, with_names}
 use Rattle.ql_forms.specs.Bytes.{Class, blank, letter, digit, plus, minus, opening, closing, mark, semicolon, dot, other, class}
-use Rattle.ql_forms.specs.Form.{Form, Forms, none, more, integer, symbol, atom, list, proper, dotted, joined, plain, with_tail, with_last, list_form, quote_form, letters_of, letters_in_tail, symbols_of, symbols_in}
+use Rattle.ql_forms.specs.Spelled.{Form, Forms, none, more, integer, symbol, atom, list, proper, dotted, joined, plain, with_tail, with_last, list_form, quote_form, letters_of, letters_in_tail, symbols_of, symbols_in}
 use Rattle.ql_read.specs.Numbering.{GoesOn, stack_names, state_names, pending, ended_by, ended}
 use Rattle.ql_read.specs.TextFault.{Kind, bad_byte, stray_close, bad_dot, too_deep}
 use Rattle.ql_read.specs.Scan.{Token, first, next, token_atom, token_form, token_kind, Stack, top, in_list, in_tail, past_tail, in_quote, depth, onto, push, State, between, in_comment, in_atom, after_dot, bad, close, put_dot, form_in, step_between, atom_or_bad, step_atom, step_dot, step, scan, whole, finish, fault_of}

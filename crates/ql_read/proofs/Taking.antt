@@ -10,10 +10,12 @@ use Rattle.ql_read.specs.declared.token.Token.{Token}
 use Rattle.ql_read.proofs.Naming.{goes_on_before, goes_on_same}
 use Rattle.ql_read.proofs.Tables.{state_begins, well_scan, names_step}
 use Rattle.ql_read.specs.declared.token.Token.TheVariants.{Between}
-use Rattle.ql_forms.specs.Form.{none}
+use Rattle.ql_forms.specs.Spelled.{none}
 use Rattle.ql_read.specs.Scan.{top, Stack, State, between, in_comment, in_atom, after_dot, bad, step, scan, start, fault_of}
-use Rattle.ql_read.specs.Told.{told, IsAt, HasTaken}
-use Rattle.std.specs.Prelude.{Result, Err}
+use Rattle.ql_read.specs.Taken.{IsIn, IsAfter}
+use Rattle.ql_read.specs.Told.{told, HasTaken}
+use Rattle.ql_read.specs.declared.nesting.Nesting.{Nesting}
+use Rattle.std.specs.Prelude.{Result, Err, Option}
 use Rattle.ql_read.specs.declared.reader.Reader.{Reader}
 use Rattle.ql_read.specs.declared.reader.ReadRefusal.{ReadRefusal}
 use Rattle.ql_read.specs.declared.reader.ReadRefusal.TheVariants.{Bad}
@@ -25,12 +27,13 @@ use Rattle.ql_read.proofs.Refusals.{take_within, byte_refused, length_refused, r
 scan_one : (p : List ℕ) (b : ℕ) → scan start (p ++ b ∷ []) ≡ step (scan start p) b
 scan_one p b = scan_append start p (b ∷ [])
 
-pub is_at : (r : Reader) (s : State) → ((later : List (List ℕ)) → GoesOn r.nesting.names later → told later r ≡ s) → IsAt r s
-unfolding IsAt
-is_at r s f = f
+pub is_in : (token : Token) (taken : ℕ) (nesting : Nesting) (s : State) → ((later : List (List ℕ)) → GoesOn nesting.names later → state_of token taken (nested later nesting) ≡ s)
+    → IsIn token taken nesting s
+unfolding IsIn
+is_in token taken nesting s f = f
 
-pub at_state : (r : Reader) (s : State) → IsAt r s → (later : List (List ℕ)) → GoesOn r.nesting.names later → told later r ≡ s
-unfolding IsAt
+pub at_state : (r : Reader) (s : State) → IsIn r.token r.taken r.nesting s → (later : List (List ℕ)) → GoesOn r.nesting.names later → told later r ≡ s
+unfolding IsIn
 at_state r s h = h
 
 -- What one byte leads to, under whichever names come later.
@@ -52,20 +55,21 @@ leads_on old p b token after k later h same s g =
     ∙ ap (λ x. step x b) (at_state old (scan start p) h.scanned later before) ∙ sym (scan_one p b)
 
 -- one more byte, which is no fault
-pub taken_one : (old new : Reader) (p : List ℕ) (b : ℕ) (token : Token) → HasTaken old p → new.refused ≡ None → new.taken ≡ old.taken + 1 → old.taken < limit → token ≡ old.token
-    → Leads old b token (λ later. told later new) → ((k : Stack) → new.nesting.names ≡ with_names old.nesting.names (ended (state_of token old.taken k) b))
-    → ((k : Stack) → fault_of (state_of new.token new.taken k) ≡ None) → HasTaken new (p ++ b ∷ [])
-taken_one old new p b token h r n lt same s names g =
+pub taken_one : (old : Reader) (refused : Option ReadRefusal) (taken : ℕ) (next : Token) (nesting : Nesting) (p : List ℕ) (b : ℕ) (token : Token) → HasTaken old p → refused ≡ None
+    → taken ≡ old.taken + 1 → old.taken < limit → token ≡ old.token → Leads old b token (λ later. state_of next taken (nested later nesting))
+    → ((k : Stack) → nesting.names ≡ with_names old.nesting.names (ended (state_of token old.taken k) b)) → ((k : Stack) → fault_of (state_of next taken k) ≡ None)
+    → IsAfter refused taken next nesting (p ++ b ∷ [])
+taken_one old refused taken next nesting p b token h r n lt same s names g =
     let now = nested old.nesting.names old.nesting in
-    let all = λ (later : List (List ℕ)) (goes : GoesOn new.nesting.names later). leads_on old p b token (λ later. told later new) now later h same s (subst (λ z. GoesOn z later) (names now) goes) in
-    let next : told new.nesting.names new ≡ scan start (p ++ b ∷ []) = all new.nesting.names (goes_on_same new.nesting.names) in
-    let well : fault_of (scan start (p ++ b ∷ [])) ≡ None = subst (λ x. fault_of x ≡ None) next (g (nested new.nesting.names new.nesting)) in
+    let all : (later : List (List ℕ)) → GoesOn nesting.names later → state_of next taken (nested later nesting) ≡ scan start (p ++ b ∷ []) =
+    λ later goes. leads_on old p b token (λ later. state_of next taken (nested later nesting)) now later h same s (subst (λ z. GoesOn z later) (names now) goes) in
+    let well : fault_of (scan start (p ++ b ∷ [])) ≡ None = subst (λ x. fault_of x ≡ None) (all nesting.names (goes_on_same nesting.names)) (g (nested nesting.names nesting)) in
     let is : state_of token old.taken now ≡ scan start p = ap (λ t. state_of t old.taken now) same ∙ at_state old (scan start p) h.scanned old.nesting.names (goes_on_same old.nesting.names) in
     let counted : length (p ++ b ∷ []) ≡ length p + 1 = length-append {A = ℕ} p (b ∷ []) in
     let before : old.taken ≡ length p = h.counted in
     record {
       reading = r;
-      scanned = is_at new (scan start (p ++ b ∷ [])) all;
+      scanned = is_in next taken nesting (scan start (p ++ b ∷ [])) all;
       numbered = names now ∙ ap (λ z. with_names old.nesting.names (ended z b)) is ∙ ap (λ z. with_names z (ended (scan start p) b)) h.numbered
           ∙ sym (names_step (scan start p) b (well_scan start p tt) (subst (λ x. fault_of x ≡ None) (scan_one p b) well)) ∙ ap state_names (sym (scan_one p b));
       no_fault = well;
@@ -156,10 +160,11 @@ none_bad kind at (by_length before long) = absurd (omega (arith, long))
 none_bad kind at (by_end before short not) = refl
 
 -- a new reader
-pub taken_none : (r : Reader) → r.refused ≡ None → r.taken ≡ 0 → r.token ≡ Between → ((later : List (List ℕ)) → nested later r.nesting ≡ top none) → r.nesting.names ≡ reserved → HasTaken r []
-taken_none r e n t k names = record {
+pub taken_none : (refused : Option ReadRefusal) (taken : ℕ) (token : Token) (nesting : Nesting) → refused ≡ None → taken ≡ 0 → token ≡ Between
+    → ((later : List (List ℕ)) → nested later nesting ≡ top none) → nesting.names ≡ reserved → IsAfter refused taken token nesting []
+taken_none refused taken token nesting e n t k names = record {
   reading = e;
-  scanned = is_at r start (λ later g. ap (λ x. state_of x r.taken (nested later r.nesting)) t ∙ ap (λ o. between o (nested later r.nesting)) n ∙ ap (between 0) (k later));
+  scanned = is_in token taken nesting start (λ later g. ap (λ x. state_of x taken (nested later nesting)) t ∙ ap (λ o. between o (nested later nesting)) n ∙ ap (between 0) (k later));
   numbered = names;
   no_fault = refl;
   counted = n;

@@ -3,7 +3,7 @@ use Rattle.std.proofs.Common.{◌≡◌, ◌⊎◌, ℕ, ◌+◌, ◌-◌, ◌*�
 use Rattle.std.specs.Prelude.{ltb, leb, if◌then◌else◌}
 use Rattle.std.proofs.lemmas.Bool.{lt-ltb, le-leb, ltb-true, leb-true}
 use Rattle.ql_forms.specs.Bytes.{Class, blank, letter, digit, plus, minus, opening, closing, mark, semicolon, dot, other, class, is_digit}
-use Rattle.ql_forms.specs.Form.{symbol, integer, Atom}
+use Rattle.ql_forms.specs.Spelled.{symbol, integer, Atom}
 use Rattle.ql_forms.specs.Spells.{starts_digit, numeric_from, is_numeric, AreDigits, value_from, most, signed, HasSign, no_sign, a_plus, a_minus, IsAtom, a_symbol, an_integer}
 use Rattle.std.proofs.lemmas.Bool.{and_parts}
 use Rattle.std.specs.Prelude.{◌&&◌}

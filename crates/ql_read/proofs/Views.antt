@@ -4,8 +4,8 @@ use Rattle.std.specs.Prelude.{ltb, if◌then◌else◌}
 use Rattle.std.specs.Global.{Vec}
 use Rattle.std.proofs.lemmas.Option.{slice_get_within}
 use Rattle.std.proofs.lemmas.Bool.{lt-ltb, le-ltb, ne_eqb}
-use Rattle.ql_forms.specs.Form.{Form, list_form, quote_form, Forms, none, more, plain, with_tail}
-use Rattle.ql_forms.specs.View.{form_of, forms_of}
+use Rattle.ql_forms.specs.Spelled.{Form, list_form, quote_form, Forms, none, more, plain, with_tail}
+use Rattle.ql_forms.specs.View.{spelling_of, spellings_of}
 use Rattle.ql_forms.specs.declared.form.Form.{Form as Value}
 use Rattle.ql_read.specs.TextFault.{bad_dot, too_deep, stray_close}
 use Rattle.ql_read.specs.Scan.{Stack, top, in_list, in_tail, past_tail, in_quote, depth, onto, push, State, between, after_dot, bad, close, put_dot, form_in}
@@ -13,9 +13,9 @@ use Rattle.ql_read.specs.View.{backward, frame_on, frames_on, stack_of, deeper_a
 use Rattle.ql_read.specs.declared.nesting.Frame.{Frame}
 use Rattle.ql_read.specs.declared.nesting.Frame.TheVariants.{InList, InTail, PastTail, InQuote}
 
-pub in_order_is : (names : List (List ℕ)) (gs : Forms) (xs : List Value) → onto (backward names gs xs) none ≡ onto gs (forms_of names xs)
+pub in_order_is : (names : List (List ℕ)) (gs : Forms) (xs : List Value) → onto (backward names gs xs) none ≡ onto gs (spellings_of names xs)
 in_order_is names gs [] = refl
-in_order_is names gs (x ∷ xs) = in_order_is names (more (form_of names x) gs) xs
+in_order_is names gs (x ∷ xs) = in_order_is names (more (spelling_of names x) gs) xs
 
 pub first_of : (n : ℕ) (fs gs : List Frame) → n ≡ 0 → gs ≡ take (n - 1) fs → gs ≡ []
 first_of n fs gs e h = h ∙ ap (λ m. take (m - 1) fs) e
@@ -26,37 +26,37 @@ module _ (names : List (List ℕ)) where
   frames_last k [] f = refl
   frames_last k (g ∷ fs) f = frames_last (frame_on names k g) fs f
 
-  forms_last : (gs : Forms) (xs : List Value) (x : Value) → backward names gs (xs ++ x ∷ []) ≡ more (form_of names x) (backward names gs xs)
+  forms_last : (gs : Forms) (xs : List Value) (x : Value) → backward names gs (xs ++ x ∷ []) ≡ more (spelling_of names x) (backward names gs xs)
   forms_last gs [] x = refl
-  forms_last gs (y ∷ xs) x = forms_last (more (form_of names y) gs) xs x
+  forms_last gs (y ∷ xs) x = forms_last (more (spelling_of names y) gs) xs x
 
   -- a stack whose last frame is f
   on_last : (fs gs : List Frame) (f : Frame) (xs : List Value) → fs ≡ gs ++ f ∷ [] → stack_of names fs xs ≡ frame_on names (stack_of names gs xs) f
   on_last fs gs f xs e = ap (frames_on names (top (backward names none xs))) e ∙ frames_last (top (backward names none xs)) gs f
 
-  pub put_top : (fs gs : List Frame) (xs ys : List Value) (x : Value) → gs ≡ [] → fs ≡ gs ++ [] → ys ≡ xs ++ x ∷ [] → stack_of names gs ys ≡ push (form_of names x) (stack_of names fs xs)
+  pub put_top : (fs gs : List Frame) (xs ys : List Value) (x : Value) → gs ≡ [] → fs ≡ gs ++ [] → ys ≡ xs ++ x ∷ [] → stack_of names gs ys ≡ push (spelling_of names x) (stack_of names fs xs)
   put_top fs gs xs ys x e h i = let j : fs ≡ [] = h ∙ ap (λ z. z ++ []) e in rw (e, j, i) (ap top (forms_last none xs x))
 
   pub put_quote : (fs gs : List Frame) (xs : List Value) (at : ℕ) (f : Form) → fs ≡ gs ++ InQuote at ∷ [] → push (quote_form at f) (stack_of names gs xs) ≡ push f (stack_of names fs xs)
   put_quote fs gs xs at f h = ap (push f) (sym (on_last fs gs (InQuote at) xs h))
 
   pub put_list : (fs gs hs : List Frame) (xs : List Value) (at : ℕ) (v w : Vec Value) (x : Value) → fs ≡ gs ++ InList at v ∷ [] → w.items ≡ v.items ++ x ∷ [] → hs ≡ gs ++ InList at w ∷ []
-      → stack_of names hs xs ≡ push (form_of names x) (stack_of names fs xs)
+      → stack_of names hs xs ≡ push (spelling_of names x) (stack_of names fs xs)
   put_list fs gs hs xs at v w x e h i =
-      let longer : backward names none w.items ≡ more (form_of names x) (backward names none v.items) = ap (backward names none) h ∙ forms_last none v.items x in
-      on_last hs gs (InList at w) xs i ∙ ap (λ z. in_list at z (stack_of names gs xs)) longer ∙ ap (push (form_of names x)) (sym (on_last fs gs (InList at v) xs e))
+      let longer : backward names none w.items ≡ more (spelling_of names x) (backward names none v.items) = ap (backward names none) h ∙ forms_last none v.items x in
+      on_last hs gs (InList at w) xs i ∙ ap (λ z. in_list at z (stack_of names gs xs)) longer ∙ ap (push (spelling_of names x)) (sym (on_last fs gs (InList at v) xs e))
 
-  pub put_tail : (fs gs hs : List Frame) (xs : List Value) (at : ℕ) (v : Vec Value) (x : Value) → fs ≡ gs ++ InTail at v ∷ [] → hs ≡ gs ++ PastTail at v x ∷ [] → stack_of names hs xs ≡ push (form_of names x) (stack_of names fs xs)
-  put_tail fs gs hs xs at v x e h = on_last hs gs (PastTail at v x) xs h ∙ ap (push (form_of names x)) (sym (on_last fs gs (InTail at v) xs e))
+  pub put_tail : (fs gs hs : List Frame) (xs : List Value) (at : ℕ) (v : Vec Value) (x : Value) → fs ≡ gs ++ InTail at v ∷ [] → hs ≡ gs ++ PastTail at v x ∷ [] → stack_of names hs xs ≡ push (spelling_of names x) (stack_of names fs xs)
+  put_tail fs gs hs xs at v x e h = on_last hs gs (PastTail at v x) xs h ∙ ap (push (spelling_of names x)) (sym (on_last fs gs (InTail at v) xs e))
 
-  pub put_past : (fs gs hs : List Frame) (xs : List Value) (at : ℕ) (v : Vec Value) (x y : Value) → fs ≡ gs ++ PastTail at v y ∷ [] → hs ≡ gs ++ PastTail at v y ∷ [] → stack_of names hs xs ≡ push (form_of names x) (stack_of names fs xs)
-  put_past fs gs hs xs at v x y e h = on_last hs gs (PastTail at v y) xs h ∙ ap (push (form_of names x)) (sym (on_last fs gs (PastTail at v y) xs e))
+  pub put_past : (fs gs hs : List Frame) (xs : List Value) (at : ℕ) (v : Vec Value) (x y : Value) → fs ≡ gs ++ PastTail at v y ∷ [] → hs ≡ gs ++ PastTail at v y ∷ [] → stack_of names hs xs ≡ push (spelling_of names x) (stack_of names fs xs)
+  put_past fs gs hs xs at v x y e h = on_last hs gs (PastTail at v y) xs h ∙ ap (push (spelling_of names x)) (sym (on_last fs gs (PastTail at v y) xs e))
 
   depth_is : (k : Stack) (fs : List Frame) → depth (frames_on names k fs) ≡ length fs + depth k
   depth_is k [] = omega arith
   depth_is k (InList at v ∷ fs) = let h : depth (frames_on names (in_list at (backward names none v.items) k) fs) ≡ length fs + (depth k + 1) = depth_is (in_list at (backward names none v.items) k) fs in omega (arith, h)
   depth_is k (InTail at v ∷ fs) = let h : depth (frames_on names (in_tail at (backward names none v.items) k) fs) ≡ length fs + (depth k + 1) = depth_is (in_tail at (backward names none v.items) k) fs in omega (arith, h)
-  depth_is k (PastTail at v x ∷ fs) = let h : depth (frames_on names (past_tail at (backward names none v.items) (form_of names x) k) fs) ≡ length fs + (depth k + 1) = depth_is (past_tail at (backward names none v.items) (form_of names x) k) fs in omega (arith, h)
+  depth_is k (PastTail at v x ∷ fs) = let h : depth (frames_on names (past_tail at (backward names none v.items) (spelling_of names x) k) fs) ≡ length fs + (depth k + 1) = depth_is (past_tail at (backward names none v.items) (spelling_of names x) k) fs in omega (arith, h)
   depth_is k (InQuote at ∷ fs) = let h : depth (frames_on names (in_quote at k) fs) ≡ length fs + (depth k + 1) = depth_is (in_quote at k) fs in omega (arith, h)
 
   pub deeper_fits : (o : ℕ) (f : Frame) (fs gs : List Frame) (xs : List Value) → length fs < 200 → gs ≡ fs ++ f ∷ [] → between (o + 1) (stack_of names gs xs) ≡ deeper_at names o f (stack_of names fs xs)
@@ -71,16 +71,16 @@ module _ (names : List (List ℕ)) where
       let room : ltb (depth (stack_of names fs xs)) 200 ≡ false = le-ltb _ _ (omega (arith, h, le)) in
       rw room refl
 
-  pub close_list : (o at : ℕ) (fs gs : List Frame) (v : Vec Value) (xs : List Value) (k : Stack) (f : Form) → fs ≡ gs ++ InList at v ∷ [] → k ≡ push f (stack_of names gs xs) → f ≡ list_form at (forms_of names v.items) plain
+  pub close_list : (o at : ℕ) (fs gs : List Frame) (v : Vec Value) (xs : List Value) (k : Stack) (f : Form) → fs ≡ gs ++ InList at v ∷ [] → k ≡ push f (stack_of names gs xs) → f ≡ list_form at (spellings_of names v.items) plain
       → between (o + 1) k ≡ close o (stack_of names fs xs)
   close_list o at fs gs v xs k f e h i =
       ap (between (o + 1)) (h ∙ ap (λ g. push g (stack_of names gs xs)) (i ∙ ap (λ z. list_form at z plain) (sym (in_order_is names none v.items))))
       ∙ ap (close o) (sym (on_last fs gs (InList at v) xs e))
 
   pub close_past : (o at : ℕ) (fs gs : List Frame) (v : Vec Value) (y : Value) (xs : List Value) (k : Stack) (f : Form) → fs ≡ gs ++ PastTail at v y ∷ [] → k ≡ push f (stack_of names gs xs)
-      → f ≡ list_form at (forms_of names v.items) (with_tail (form_of names y)) → between (o + 1) k ≡ close o (stack_of names fs xs)
+      → f ≡ list_form at (spellings_of names v.items) (with_tail (spelling_of names y)) → between (o + 1) k ≡ close o (stack_of names fs xs)
   close_past o at fs gs v y xs k f e h i =
-      ap (between (o + 1)) (h ∙ ap (λ g. push g (stack_of names gs xs)) (i ∙ ap (λ z. list_form at z (with_tail (form_of names y))) (sym (in_order_is names none v.items))))
+      ap (between (o + 1)) (h ∙ ap (λ g. push g (stack_of names gs xs)) (i ∙ ap (λ z. list_form at z (with_tail (spelling_of names y))) (sym (in_order_is names none v.items))))
       ∙ ap (close o) (sym (on_last fs gs (PastTail at v y) xs e))
 
   pub close_bad : (o : ℕ) (s : State) (fs gs : List Frame) (f : Frame) (xs : List Value) → fs ≡ gs ++ f ∷ [] → close o (frame_on names (stack_of names gs xs) f) ≡ s → s ≡ close o (stack_of names fs xs)
@@ -91,7 +91,7 @@ module _ (names : List (List ℕ)) where
 
   backward_more : (f : Form) (fs : Forms) (xs : List Value) → (g : Form) × (gs : Forms) × (backward names (more f fs) xs ≡ more g gs)
   backward_more f fs [] = (f, fs, refl)
-  backward_more f fs (x ∷ xs) = backward_more (form_of names x) (more f fs) xs
+  backward_more f fs (x ∷ xs) = backward_more (spelling_of names x) (more f fs) xs
 
   pub dot_bad : (o : ℕ) (fs gs : List Frame) (f : Frame) (xs : List Value) → fs ≡ gs ++ f ∷ [] → put_dot o (frame_on names (stack_of names gs xs) f) ≡ bad o bad_dot → bad o bad_dot ≡ put_dot o (stack_of names fs xs)
   dot_bad o fs gs f xs e h = sym (ap (put_dot o) (on_last fs gs f xs e) ∙ h)
@@ -105,7 +105,7 @@ module _ (names : List (List ℕ)) where
 
   dot_some : (o at n : ℕ) (k : Stack) (ys : List Value) → n ≡ length ys → false ≡ (n == 0) → put_dot o (in_list at (backward names none ys) k) ≡ after_dot (o + 1) (in_tail at (backward names none ys) k)
   dot_some o at n k [] e h = let z : (n == 0) ≡ true = rw e refl in absurd (cc)
-  dot_some o at n k (y ∷ ys) e h = let (g, gs, i) = backward_more (form_of names y) none ys in rw i refl
+  dot_some o at n k (y ∷ ys) e h = let (g, gs, i) = backward_more (spelling_of names y) none ys in rw i refl
 
   pub dot_list : (o at : ℕ) (fs gs hs : List Frame) (v : Vec Value) (xs : List Value) (n : ℕ) → fs ≡ gs ++ InList at v ∷ [] → hs ≡ gs ++ InTail at v ∷ [] → n ≡ length v.items → false ≡ (n == 0)
       → after_dot (o + 1) (stack_of names hs xs) ≡ put_dot o (stack_of names fs xs)

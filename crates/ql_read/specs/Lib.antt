@@ -5,3 +5,4 @@ pub mod Scan
 pub mod TextFault
 pub mod Told
 pub mod View
+pub mod Taken

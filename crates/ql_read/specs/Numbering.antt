@@ -2,7 +2,7 @@
 use Rattle.std.specs.Prelude.{◌≡◌, ℕ, List, []}
 use Rattle.ql_base.specs.Names.{reserved, with_names}
 use Rattle.ql_forms.specs.Bytes.{Class, letter, digit, plus, minus, dot, class}
-use Rattle.ql_forms.specs.Form.{none, letters_of, symbols_of, symbols_in}
+use Rattle.ql_forms.specs.Spelled.{none, letters_of, symbols_of, symbols_in}
 use Rattle.ql_read.specs.Scan.{token_atom, Stack, top, in_list, in_tail, past_tail, in_quote, onto, State, between, in_comment, in_atom, after_dot, bad}
 
 -- The later table has these names, and then those of some more texts that were new.

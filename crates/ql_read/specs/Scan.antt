@@ -1,7 +1,7 @@
 -- A text read byte by byte.
 use Rattle.std.specs.Prelude.{ℕ, ◌+◌, ◌-◌, ◌*◌, ◌==◌, ltb, leb, Bool, true, false, if◌then◌else◌, List, [], ◌∷◌, ◌++◌, length, Option, Some, None}
 use Rattle.ql_forms.specs.Bytes.{Class, blank, letter, digit, plus, minus, opening, closing, mark, semicolon, dot, other, class}
-use Rattle.ql_forms.specs.Form.{Form, symbol, integer, list_form, quote_form, Forms, none, more, plain, with_tail, Atom, atom}
+use Rattle.ql_forms.specs.Spelled.{Form, symbol, integer, list_form, quote_form, Forms, none, more, plain, with_tail, Atom, atom}
 use Rattle.ql_forms.specs.Spells.{most, signed}
 use Rattle.ql_read.specs.TextFault.{Kind, bad_byte, stray_close, bad_dot, bad_number, long_name, too_deep}
 

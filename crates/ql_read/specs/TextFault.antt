@@ -1,8 +1,10 @@
 -- Where a text is at fault, and why. It speaks of what the text and its continuations spell, and of no reader.
 use Rattle.std.specs.Prelude.{◌≡◌, ◌⊎◌, ◌≤◌, ◌<◌, ℕ, ◌+◌, ◌==◌, Bool, true, false, not, if◌then◌else◌, List, [], ◌∷◌, ◌++◌, length, take}
 use Rattle.ql_forms.specs.Bytes.{Class, blank, opening, closing, mark, semicolon, dot, other, class, is_atom}
-use Rattle.ql_forms.specs.Form.{Forms}
-use Rattle.ql_forms.specs.Spells.{is_numeric, Spells, Numbered}
+use Rattle.ql_forms.specs.Spelled.{Forms}
+use Rattle.ql_forms.specs.Form as numbered
+use Rattle.ql_forms.specs.Numbered.{Numbered}
+use Rattle.ql_forms.specs.Spells.{is_numeric, Spells}
 
 -- some continuation spells forms
 abbrev pub CanGoOn : List ℕ → Type 0
@@ -130,13 +132,14 @@ pub record IsRefused (b : List ℕ) (kind at : ℕ) : Type 0 where
   pub place : at ≤ length b
   pub within : kind < unfinished → at < length b
 
--- The text spells these forms and no others, is short enough and has no fault; the names are its symbols.
-pub record IsRead (b : List ℕ) (forms : Forms) (names : List (List ℕ)) : Type 0 where
-  pub spells : Spells b forms
-  pub numbered : Numbered forms names
+-- The text spells these forms, by number among these names, and no others; it is short enough and has no fault.
+pub record IsRead (b : List ℕ) (forms : numbered.Forms) (names : List (List ℕ)) : Type 0 where
+  pub spelling : Forms
+  pub spells : Spells b spelling
+  pub numbered : Numbered spelling names forms
   pub short : length b ≤ limit
   pub no_fault : (k n : ℕ) → TextFault b k n → Prim.⊥
-  pub only : (fs : Forms) → Spells b fs → fs ≡ forms
+  pub only : (fs : Forms) → Spells b fs → fs ≡ spelling
 
 -- No byte of this text is at fault, and they aren't too many: the text may at most end too early.
 abbrev pub NoFaultIn : List ℕ → Type 0

@@ -1,11 +1,11 @@
 -- The stack and the state that values stand for.
-use Rattle.ql_forms.specs.View.{form_of, forms_of}
+use Rattle.ql_forms.specs.View.{spelling_of, spellings_of}
 use Rattle.ql_read.specs.Fault.{fault_told}
 use Rattle.std.specs.Prelude.{◌+◌, ltb, if◌then◌else◌, ℕ, Bool, true, false, List, [], ◌∷◌, Option, Some, None}
 use Rattle.ql_forms.specs.Bytes.{Class, letter, digit, plus, minus, opening, mark}
-use Rattle.ql_forms.specs.Form.{Forms, none, more}
+use Rattle.ql_forms.specs.Spelled.{Forms, none, more}
 use Rattle.ql_forms.specs.declared.form.Form.{Form as Value}
-use Rattle.ql_forms.specs.declared.form.Text.{Text}
+use Rattle.ql_read.specs.declared.ending.Whole.{Whole}
 use Rattle.ql_read.specs.TextFault.{bad_byte, too_deep}
 use Rattle.ql_read.specs.Scan.{first, of_symbol, of_sign, of_number, Stack, top, in_list, in_tail, past_tail, in_quote, depth, State, between, in_comment, in_atom, after_dot, bad}
 use Rattle.ql_read.specs.declared.nesting.Frame.{Frame}
@@ -17,12 +17,12 @@ use Rattle.ql_read.specs.declared.token.Token.TheVariants.{Between, InComment, I
 -- the forms in reverse, before the others
 abbrev pub backward : List (List ℕ) → Forms → List Value → Forms
 backward names fs [] = fs
-backward names fs (x ∷ xs) = backward names (more (form_of names x) fs) xs
+backward names fs (x ∷ xs) = backward names (more (spelling_of names x) fs) xs
 
 abbrev pub frame_on : List (List ℕ) → Stack → Frame → Stack
 frame_on names k (InList at items) = in_list at (backward names none items.items) k
 frame_on names k (InTail at items) = in_tail at (backward names none items.items) k
-frame_on names k (PastTail at items tail) = past_tail at (backward names none items.items) (form_of names tail) k
+frame_on names k (PastTail at items tail) = past_tail at (backward names none items.items) (spelling_of names tail) k
 frame_on names k (InQuote at) = in_quote at k
 
 abbrev pub frames_on : List (List ℕ) → Stack → List Frame → Stack
@@ -63,6 +63,6 @@ form_from o k b mark = if ltb (depth k) 200 then between (o + 1) (in_quote o k) 
 form_from o k b c = bad o bad_byte
 
 -- the forms of a text that may end here
-abbrev pub text_told : List (List ℕ) → Option Text → Option Forms
+abbrev pub text_told : List (List ℕ) → Option Whole → Option Forms
 text_told names None = None
-text_told names (Some text) = Some (forms_of names text.forms)
+text_told names (Some text) = Some (spellings_of names text.forms)

@@ -1,7 +1,7 @@
 //! What is true of texts, their forms and their faults, whoever reads them.
 
 ghost use Rattle.std.specs.Prelude.{◌≡◌, ◌≤◌, ◌<◌, ◌++◌, ℕ, List, length};
-ghost use Rattle.ql_forms.specs.Form.{Forms};
+ghost use Rattle.ql_forms.specs.Spelled.{Forms};
 ghost use Rattle.ql_forms.specs.Spells.{Spells};
 ghost use Rattle.ql_read.specs.TextFault.{TextFault, Verdict, limit, unfinished};
 

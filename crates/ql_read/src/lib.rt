@@ -10,7 +10,5 @@ mod number;
 pub mod reader;
 mod scan;
 #[cfg(test)]
-mod slow;
-#[cfg(test)]
 mod tests;
 mod token;

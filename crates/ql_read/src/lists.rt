@@ -5,8 +5,9 @@
 
 ghost use Rattle.std.specs.Prelude.{◌≡◌, ℕ, List, [], IfOk, slice_index_or};
 ghost use Rattle.ql_base.specs.Names.{reserved};
-ghost use Rattle.ql_forms.specs.Form.{tail_of, atom, symbol, plain, with_tail, list_form, quote_form};
-ghost use Rattle.ql_forms.specs.View.{form_of, forms_of, atom_of, tail_told};
+ghost use Rattle.ql_forms.specs.Spelled.{tail_of, atom, symbol, plain, with_tail, list_form, quote_form};
+ghost use Rattle.ql_forms.specs.Numbered.{spelled_atom, spelled_tail};
+ghost use Rattle.ql_forms.specs.View.{spelling_of, spellings_of, atom_of, tail_of as tail_told};
 ghost use Rattle.ql_read.specs.Numbering.{GoesOn};
 
 use ql_base::numbers::Offset;
@@ -22,7 +23,7 @@ const QUOTE: u32 = 2;
 
 /// These items in parentheses. No items are nil.
 pub fn proper_list(at: u64, items: Vec<Form>) -> Form
-    ensures { (names : List (List ℕ)) → GoesOn reserved names → form_of names result ≡ list_form at (forms_of names items.items) plain }
+    ensures { (names : List (List ℕ)) → GoesOn reserved names → spelling_of names result ≡ list_form at (spellings_of names items.items) plain }
 {
     if items.is_empty() {
         return reserved_word(at, NIL);
@@ -37,7 +38,7 @@ pub fn proper_list(at: u64, items: Vec<Form>) -> Form
 /// These items and a last form after a dot.
 pub fn dotted_list(at: u64, items: Vec<Form>, last: Form) -> Result<Form, AllocError>
     ensures { (names : List (List ℕ)) → GoesOn reserved names
-        → IfOk result (λ f. form_of names f ≡ list_form at (forms_of names items.items) (with_tail (form_of names last))) }
+        → IfOk result (λ f. spelling_of names f ≡ list_form at (spellings_of names items.items) (with_tail (spelling_of names last))) }
 {
     if items.is_empty() {
         return Ok(reserved_word(at, NIL));
@@ -66,7 +67,7 @@ pub fn dotted_list(at: u64, items: Vec<Form>, last: Form) -> Result<Form, AllocE
 
 /// The form after a quote mark, quoted.
 pub fn quoted(alloc: Global, at: u64, form: Form) -> Result<Form, AllocError>
-    ensures { (names : List (List ℕ)) → GoesOn reserved names → IfOk result (λ f. form_of names f ≡ quote_form at (form_of names form)) }
+    ensures { (names : List (List ℕ)) → GoesOn reserved names → IfOk result (λ f. spelling_of names f ≡ quote_form at (spelling_of names form)) }
 {
     let mut items = Vec::with_capacity(alloc, 2)?;
     items.push(reserved_word(at, QUOTE))?;
@@ -80,7 +81,7 @@ pub fn quoted(alloc: Global, at: u64, form: Form) -> Result<Form, AllocError>
 
 /// The symbol of this number.
 fn reserved_word(at: u64, number: u32) -> Form
-    ensures { (names : List (List ℕ)) → form_of names result ≡ atom at (symbol (slice_index_or names number [])) }
+    ensures { (names : List (List ℕ)) → spelling_of names result ≡ atom at (symbol (slice_index_or names number [])) }
 {
     Form::Atom {
         at: Offset(at),
@@ -90,7 +91,7 @@ fn reserved_word(at: u64, number: u32) -> Form
 
 /// An atom as a tail. Nil makes a proper list.
 fn as_tail(atom: Atom) -> Option<Atom>
-    ensures { (names : List (List ℕ)) → GoesOn reserved names → tail_told names result ≡ tail_of (atom_of names atom) }
+    ensures { (names : List (List ℕ)) → GoesOn reserved names → spelled_tail names (tail_told result) ≡ tail_of (spelled_atom names (atom_of atom)) }
 {
     match atom {
         Atom::Int(_) => Some(atom),

@@ -2,8 +2,8 @@
 
 ghost use Rattle.std.specs.Prelude.{◌≡◌, ◌+◌, ℕ, List, OnOk, IfOk};
 ghost use Rattle.ql_base.specs.Names.{reserved, with_name};
-ghost use Rattle.ql_forms.specs.Form.{none, atom, symbol};
-ghost use Rattle.ql_forms.specs.View.{form_of};
+ghost use Rattle.ql_forms.specs.Spelled.{none, atom, symbol};
+ghost use Rattle.ql_forms.specs.View.{spelling_of};
 ghost use Rattle.ql_read.specs.Numbering.{GoesOn};
 ghost use Rattle.ql_read.specs.Scan.{top, push, close, put_dot};
 ghost use Rattle.ql_read.specs.View.{nested, state_of, deeper_at, is_past};
@@ -85,7 +85,7 @@ impl Nesting {
     /// A form has ended. It ends the quote marks directly around it too.
     pub fn put(&mut self, form: Form) -> Result<(), AllocError>
         ensures ok { (later : List (List ℕ)) → GoesOn reserved later
-            → OnOk result (nested later self.new ≡ push (form_of later form) (nested later self.old)) }
+            → OnOk result (nested later self.new ≡ push (spelling_of later form) (nested later self.old)) }
         ensures names { self.new.names ≡ self.old.names }
     {
         let mut ended = form;

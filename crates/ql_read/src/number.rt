@@ -1,9 +1,9 @@
 //! Integers, digit by digit.
 
 ghost use Rattle.std.specs.Prelude.{◌≡◌, ◌≤◌, ◌+◌, ◌-◌, ◌*◌, leb, true, false, IfSome, IfNone, ℕ, List};
-ghost use Rattle.ql_forms.specs.Form.{atom, integer};
+ghost use Rattle.ql_forms.specs.Spelled.{atom, integer};
 ghost use Rattle.ql_forms.specs.Spells.{most, signed};
-ghost use Rattle.ql_forms.specs.View.{form_of};
+ghost use Rattle.ql_forms.specs.View.{spelling_of};
 
 use ql_base::numbers::Offset;
 use ql_forms::form::{Atom, Form};
@@ -64,7 +64,7 @@ impl Number {
 
     /// The form of the number.
     pub fn form(self, at: u64) -> Form
-        ensures { (names : List (List ℕ)) → form_of names result ≡ atom at (integer (signed self.negative self.value)) }
+        ensures { (names : List (List ℕ)) → spelling_of names result ≡ atom at (integer (signed self.negative self.value)) }
     {
         Form::Atom {
             at: Offset(at),

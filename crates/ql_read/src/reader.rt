@@ -3,14 +3,14 @@
 ghost use Rattle.std.specs.Prelude.{◌≡◌, ◌≤◌, ◌<◌, ◌+◌, ℕ, List, [], ◌∷◌, ◌++◌, length, Some, IfOk, IfErr, OnOk};
 ghost use Rattle.ql_forms.specs.View.{forms_of};
 ghost use Rattle.ql_read.specs.TextFault.{IsRead, IsRefused, NoFaultIn, limit, unfinished};
-ghost use Rattle.ql_read.specs.Told.{HasTaken, HasFailed, taken_of};
-ghost use Rattle.ql_read.specs.declared.reader.ReadRefusal.TheVariants.{Bad};
+ghost use Rattle.ql_read.specs.Taken.{IsAfterSome};
 
-use crate::ending::text_at_end;
+use crate::ending::whole_at_end;
 use crate::nesting::Nesting;
 use crate::scan::take_byte;
 use crate::token::Token;
-use ql_forms::form::Text;
+use ql_forms::laws::spelled_symbols_have_names;
+use ql_forms::text::Text;
 use std::alloc::{AllocError, Global};
 use thiserror::Error;
 
@@ -48,9 +48,13 @@ pub struct Reader {
     token: Token,
     nesting: Nesting,
     refused: Option<ReadRefusal>,
+    ghost taken_some: { ∥ IsAfterSome refused taken token nesting ∥₁ },
 }
 
 impl Reader {
+    ghost use Rattle.ql_read.specs.Told.{HasTaken, HasFailed, taken_of};
+    ghost use Rattle.ql_read.specs.declared.reader.ReadRefusal.TheVariants.{Bad};
+
     /// A reader that has taken nothing yet, with the reserved words for names.
     pub fn new(alloc: Global) -> Result<Reader, AllocError>
         ensures taken { IfOk result (λ r. HasTaken r []) }
@@ -82,7 +86,6 @@ impl Reader {
         }
         for b in piece {
             if let Err(refusal) = self.take(*b) {
-                self.refused = Some(refusal);
                 return Err(refusal);
             }
         }
@@ -92,7 +95,7 @@ impl Reader {
     /// The forms of all that came, and the names of their symbols after the reserved words. A text
     /// that ends inside a form is refused with the kind 8.
     pub fn finish(self) -> Result<Text, ReadRefusal>
-        ensures ok { IfOk result (λ text. (b : List ℕ) → HasTaken self b → IsRead b (forms_of text.names text.forms) text.names) }
+        ensures ok { IfOk result (λ text. (b : List ℕ) → HasTaken self b → IsRead b (forms_of text.forms) text.names) }
         ensures bad { (kind at : ℕ) → result ≡ Err (Bad kind at) → (b : List ℕ) → HasTaken self b → (kind ≡ unfinished) × IsRefused b kind at }
         ensures stays { (r : ReadRefusal) → HasFailed self r → result ≡ Err r }
     {
@@ -105,8 +108,13 @@ impl Reader {
         if let Some(refusal) = refused {
             return Err(refusal);
         }
-        match text_at_end(nesting, token) {
-            Ok(Some(text)) => Ok(text),
+        // A law that the text's own fact rests on; the call does nothing.
+        spelled_symbols_have_names();
+        match whole_at_end(nesting, token) {
+            Ok(Some(whole)) => Ok(Text {
+                forms: whole.forms,
+                names: whole.names,
+            }),
             Ok(None) => Err(ReadRefusal::Bad {
                 kind: UNFINISHED,
                 at: taken,
@@ -115,30 +123,41 @@ impl Reader {
         }
     }
 
-    /// Takes one byte.
+    /// Takes one byte, unless something was refused before.
     fn take(&mut self, b: u8) -> Result<(), ReadRefusal>
         ensures ok { OnOk result ((p : List ℕ) → HasTaken self.old p → HasTaken self.new (p ++ b ∷ [])) }
         ensures bad { (kind at : ℕ) → result ≡ Err (Bad kind at) → (p : List ℕ) → HasTaken self.old p → IsRefused (p ++ b ∷ []) kind at }
         ensures counted { OnOk result (taken_of self.new ≡ taken_of self.old + 1) }
         ensures few { OnOk result (taken_of self.new ≤ limit) }
         ensures here { (kind at : ℕ) → result ≡ Err (Bad kind at) → (p : List ℕ) → HasTaken self.old p → (at ≡ length p) × (kind < unfinished) }
+        ensures failed { IfErr result (λ r. HasFailed self.new r) }
     {
         if self.taken >= LIMIT {
-            return Err(ReadRefusal::Bad {
+            let refusal = ReadRefusal::Bad {
                 kind: TOO_LONG,
                 at: LIMIT,
-            });
+            };
+            self.refused = Some(refusal);
+            return Err(refusal);
         }
         let token = std::mem::replace(&mut self.token, Token::Between);
         let next = match take_byte(&mut self.nesting, token, self.taken, b) {
             Ok(next) => next,
-            Err(error) => return Err(ReadRefusal::Memory(error)),
+            Err(error) => {
+                let refusal = ReadRefusal::Memory(error);
+                self.refused = Some(refusal);
+                return Err(refusal);
+            }
         };
         match next.fault() {
-            Some((at, fault)) => Err(ReadRefusal::Bad {
-                kind: fault.number(),
-                at,
-            }),
+            Some((at, fault)) => {
+                let refusal = ReadRefusal::Bad {
+                    kind: fault.number(),
+                    at,
+                };
+                self.refused = Some(refusal);
+                Err(refusal)
+            }
             None => {
                 self.token = next;
                 self.taken += 1;

@@ -1,7 +1,8 @@
 //! Small texts, whole and byte by byte, with the answers that the grammar gives them.
 
 use crate::reader::{ReadRefusal, Reader};
-use ql_forms::form::{Atom, Form, Text};
+use ql_forms::form::{Atom, Form};
+use ql_forms::text::Text;
 use std::alloc::Global;
 
 /// The text whole, or in pieces of one byte. A reader that doesn't answer its refusal again has kind 0.

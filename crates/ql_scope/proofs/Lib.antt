@@ -1,6 +1,7 @@
-pub mod Letters
-pub mod Counted
-pub mod Found
-pub mod Opened
 pub mod Above
+pub mod Added
+pub mod Cases
 pub mod Collected
+mod Compilable
+mod FaultKinds
+pub mod Opened

@@ -1,9 +1,6 @@
-pub mod Fault
+pub mod CheckTables
+pub mod CheckWalk
+pub mod Compilable
 pub mod Scope
-pub mod Tables
-pub mod Checking
 pub mod Scoped
 pub mod Stored
-pub mod Storing
-pub mod Table
-pub mod ScopedIn

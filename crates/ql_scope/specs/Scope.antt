@@ -1,49 +1,49 @@
 -- What is wrong with the names of a program.
-use Rattle.std.specs.Prelude.{◌≡◌, ℕ, ◌+◌, Bool, true, false, ◌||◌, ◌==◌, if◌then◌else◌, List, [], ◌∷◌, ◌++◌, length, map, Option, Some, None, option_map}
-use Rattle.std.specs.Str.{bytes_eq}
+use Rattle.std.specs.Prelude.{◌≡◌, ℕ, ◌+◌, Bool, true, false, ◌||◌, ◌==◌, if◌then◌else◌, List, [], ◌∷◌, ◌++◌, length, map, Option, Some, None}
 use Rattle.ql_expand.specs.Core.{Name, named, hidden, Binder, binder, Core, core, Node, constant, variable, setq, conditional, progn, binding, primitive, print, call, funcall, lambda, qlet, qlambda, catch, qcatch, throw, protect, defvar, Cores, no_cores, and_core, Bounds, no_bounds, and_bound, Function, function, Program, program}
-use Rattle.ql_scope.specs.declared.fault.Fault.{Fault}
-use Rattle.ql_scope.specs.declared.fault.FaultKind.TheVariants.{Unbound, NoFunction, Twice, WrongCount, BadCleanup, Shadow, TooMany}
-use Rattle.ql_scope.specs.Fault.{fault, number_of, least}
+use Rattle.ql_expand.specs.Primitives.{count_of}
+use Rattle.ql_base.specs.Refusal.{fault, least, told, unless, where_true}
+use Rattle.ql_base.specs.declared.refusal.Fault.{Fault}
+use Rattle.ql_base.specs.declared.refusal.FaultKind.TheVariants.{Unbound, NoFunction, Twice, WrongCount, BadCleanup, Shadow, TooMany}
 
 -- the most parameters or bindings of one list, and the most arguments of `funcall`
 abbrev pub most : ℕ
 most = 16
 
 -- whether a name is among these
-abbrev pub is_among : List ℕ → List (List ℕ) → Bool
+abbrev pub is_among : ℕ → List ℕ → Bool
 is_among w [] = false
-is_among w (n ∷ ns) = bytes_eq n w || is_among w ns
+is_among w (n ∷ ns) = n == w || is_among w ns
 
 -- a function as its callers see it
 pub record Head : Type 0 where
-  pub letters : List ℕ
+  pub name : ℕ
   pub parameters : ℕ
 
 abbrev pub head_of : Function → Head
-head_of (function at w named_at bs body) = record { letters = w; parameters = length bs }
+head_of (function at w named_at bs body) = record { name = w; parameters = length bs }
 
 -- what a place in a program sees
 pub record Place : Type 0 where
   -- of the whole program
   pub functions : List Head
-  pub globals : List (List ℕ)
+  pub globals : List ℕ
   -- the names of the binders above the place
-  pub variables : List (List ℕ)
+  pub variables : List ℕ
   -- whether it stands in a cleanup
   pub cleanup : Bool
 
 -- how many parameters the first function of a name has
-abbrev pub parameter_count : List Head → List ℕ → Option ℕ
+abbrev pub parameter_count : List Head → ℕ → Option ℕ
 parameter_count [] w = None
-parameter_count (f ∷ fs) w = if bytes_eq f.letters w then Some f.parameters else parameter_count fs w
+parameter_count (f ∷ fs) w = if f.name == w then Some f.parameters else parameter_count fs w
 
 -- what a binder is called; a hidden variable has no name
-abbrev pub name_at : Binder → List (List ℕ)
+abbrev pub name_at : Binder → List ℕ
 name_at (binder at (named w)) = w ∷ []
 name_at (binder at (hidden n)) = []
 
-abbrev pub names_at : List Binder → List (List ℕ)
+abbrev pub names_at : List Binder → List ℕ
 names_at [] = []
 names_at (b ∷ bs) = name_at b ++ names_at bs
 
@@ -59,12 +59,6 @@ under bs p = record p { variables = p.variables ++ names_at bs }
 abbrev pub in_cleanup : Place → Place
 in_cleanup p = record p { cleanup = true }
 
-abbrev pub unless : Bool → List Fault → List Fault
-unless b faults = if b then [] else faults
-
-abbrev pub where_true : Bool → List Fault → List Fault
-where_true b faults = if b then faults else []
-
 -- a use of a variable: a binder above it or a global has its name
 abbrev pub use_faults : Place → ℕ → Name → List Fault
 use_faults p at (hidden n) = []
@@ -76,7 +70,7 @@ count_faults at arguments None = fault NoFunction at
 count_faults at arguments (Some parameters) = unless (arguments == parameters) (fault WrongCount at)
 
 -- a name at this offset, with these before it
-abbrev pub twice_faults : List (List ℕ) → ℕ → List ℕ → List Fault
+abbrev pub twice_faults : List ℕ → (at name : ℕ) → List Fault
 twice_faults before at w = where_true (is_among w before) (fault Twice at)
 
 -- the one after so many others of its list
@@ -84,7 +78,7 @@ abbrev pub seventeenth_faults : ℕ → ℕ → List Fault
 seventeenth_faults count at = where_true (count == most) (fault TooMany at)
 
 -- what is wrong with the name of a binder, with these names before it in its list
-abbrev pub called_faults : (globals before : List (List ℕ)) → Binder → List Fault
+abbrev pub called_faults : (globals before : List ℕ) → Binder → List Fault
 called_faults globals before (binder at (hidden n)) = []
 called_faults globals before (binder at (named w)) = twice_faults before at w ++ where_true (is_among w globals) (fault Shadow at)
 
@@ -92,11 +86,11 @@ abbrev pub offset_of : Binder → ℕ
 offset_of (binder at v) = at
 
 -- a binder with these names and so many binders before it in its list
-abbrev pub binder_faults : (globals before : List (List ℕ)) → ℕ → Binder → List Fault
+abbrev pub binder_faults : (globals before : List ℕ) → ℕ → Binder → List Fault
 binder_faults globals before count b = seventeenth_faults count (offset_of b) ++ called_faults globals before b
 
 -- the binders of one list, with these names and so many binders before them
-abbrev pub binders_faults : (globals before : List (List ℕ)) → ℕ → List Binder → List Fault
+abbrev pub binders_faults : (globals before : List ℕ) → ℕ → List Binder → List Fault
 binders_faults globals before count [] = []
 binders_faults globals before count (b ∷ bs) =
     binder_faults globals before count b ++ binders_faults globals (before ++ name_at b) (count + 1) bs
@@ -119,10 +113,6 @@ may_clean _ = false
 
 abbrev pub cleanup_faults : Place → ℕ → Node → List Fault
 cleanup_faults p at n = where_true p.cleanup (unless (may_clean n) (fault BadCleanup at))
-
-abbrev pub count_of : Cores → ℕ
-count_of no_cores = 0
-count_of (and_core c cs) = count_of cs + 1
 
 -- the offset of a core
 abbrev pub core_at : Core → ℕ
@@ -168,21 +158,21 @@ abbrev mutual
   values_faults p (and_bound b c bs) = core_faults p c ++ values_faults p bs
 
 -- functions with the names of earlier ones
-abbrev pub repeated_functions : (before : List (List ℕ)) → List Function → List Fault
+abbrev pub repeated_functions : (before : List ℕ) → List Function → List Fault
 repeated_functions before [] = []
 repeated_functions before (function at w named_at bs body ∷ fs) = twice_faults before named_at w ++ repeated_functions (before ++ w ∷ []) fs
 
 -- the name of the global that a top form makes
-abbrev pub global_at : Core → List (List ℕ)
+abbrev pub global_at : Core → List ℕ
 global_at (core at (defvar w named_at c)) = w ∷ []
 global_at _ = []
 
-abbrev pub repeated_global : List (List ℕ) → Core → List Fault
+abbrev pub repeated_global : List ℕ → Core → List Fault
 repeated_global before (core at (defvar w named_at c)) = twice_faults before named_at w
 repeated_global before _ = []
 
 -- top forms that make globals with the names of earlier ones
-abbrev pub repeated_globals : (before : List (List ℕ)) → Cores → List Fault
+abbrev pub repeated_globals : (before : List ℕ) → Cores → List Fault
 repeated_globals before no_cores = []
 repeated_globals before (and_core c cs) = repeated_global before c ++ repeated_globals (before ++ global_at c) cs
 
@@ -195,7 +185,7 @@ functions_faults p [] = []
 functions_faults p (f ∷ fs) = function_faults p f ++ functions_faults p fs
 
 -- what the top forms and the functions of a program see; the globals are the names of its `defvar` forms
-abbrev pub top : List Function → List (List ℕ) → Place
+abbrev pub top : List Function → List ℕ → Place
 top fs globals = record { functions = map head_of fs; globals = globals; variables = []; cleanup = false }
 
 -- all that is wrong with the names of a program
@@ -205,7 +195,7 @@ program_faults (program fs globals cs) =
 
 -- the first fault of a program: its offset and the number of its kind
 abbrev pub scope_fault : Program → Option (ℕ × ℕ)
-scope_fault p = option_map (λ f. (f.at, number_of f.kind)) (least (program_faults p))
+scope_fault p = told (least (program_faults p))
 
 -- Nothing is wrong with the names of a program.
 abbrev pub InScope : Program → Type 0

@@ -1,36 +1,33 @@
 -- Programs that are in scope.
-use Rattle.std.specs.Prelude.{◌≡◌, ℕ, ◌<◌, List, length, None}
-use Rattle.ql_base.specs.Names.{AreDistinct}
+use Rattle.std.specs.Prelude.{◌≡◌, ℕ, ◌==◌, ◌&&◌, ◌||◌, Bool, false, List, [], ◌∷◌, length, None}
 use Rattle.ql_forms.specs.Form.{Forms}
+use Rattle.ql_expand.specs.Core.{Program, binder, named}
 use Rattle.ql_expand.specs.ExpandFault.{expand_fault}
 use Rattle.ql_expand.specs.Expands.{ExpandsTo}
-use Rattle.ql_expand.specs.View.{program_of}
-use Rattle.ql_expand.specs.declared.program.Program.{Program}
-use Rattle.ql_expand.specs.declared.program.VarName.{VarName}
-use Rattle.ql_expand.specs.declared.program.VarName.TheVariants.{Sym, Hidden}
 use Rattle.ql_scope.specs.Scope.{InScope}
-use Rattle.ql_scope.specs.Table.{HasStored}
-use Rattle.ql_scope.specs.declared.stored.Variable.{Variable}
+use Rattle.ql_scope.specs.Stored.{is_stored}
+use Rattle.ql_scope.specs.declared.variable.Variable.{Variable}
 
--- With these names the program is what some forms without a fault expand to, and it counts the names.
-pub record IsExpanded (names : List (List ℕ)) (p : Program) : Type 0 where
+-- some forms without a fault expand to the program, in a source with so many names
+pub record IsExpanded (p : Program) (count : ℕ) : Type 0 where
+  pub names : List (List ℕ)
   pub forms : Forms
-  pub expand : ExpandsTo forms (program_of names p)
-  pub no_fault : expand_fault forms ≡ None
-  pub counted : p.names ≡ length names
+  pub expands : ExpandsTo forms p
+  pub no_fault : expand_fault names forms ≡ None
+  pub counted : length names ≡ count
 
--- With these names the program comes of forms, nothing is wrong with the names in it, and its stored variables are
--- those in the table.
-pub record HasScope (names : List (List ℕ)) (p : Program) (table : List Variable) : Type 0 where
-  pub expanded : IsExpanded names p
-  pub in_scope : InScope (program_of names p)
-  pub stored : HasStored names (program_of names p) table
+-- whether the variable with this offset and this number is in the table
+abbrev pub is_listed : List Variable → (at number : ℕ) → Bool
+is_listed [] at n = false
+is_listed (v ∷ vs) at n = (at == v.at && n == v.name) || is_listed vs at n
 
--- In some table of names without repeats it is so.
-abbrev pub IsScoped : Program → List Variable → Type 0
-IsScoped p table = (names : List (List ℕ)) × (AreDistinct names × HasScope names p table)
+-- The variables in the table are those of the program that some `setq` names.
+abbrev pub HasStored : Program → List Variable → Type 0
+HasStored p vs = (at n : ℕ) → is_listed vs at n ≡ is_stored p (binder at (named n))
 
--- A variable that the source names has a number of the table of names.
-abbrev pub IsNumbered : List (List ℕ) → VarName → Type 0
-IsNumbered names (Sym n) = n < length names
-IsNumbered names (Hidden n) = Unit {0}
+-- The program comes of forms without a fault, nothing is wrong with the names in it, and its stored variables are those
+-- in the table.
+pub record HasScope (p : Program) (count : ℕ) (table : List Variable) : Type 0 where
+  pub expanded : IsExpanded p count
+  pub in_scope : InScope p
+  pub stored : HasStored p table

@@ -1,54 +1,62 @@
 //! The binders above a place, of which the innermost of each name is found at once.
 
-ghost use Rattle.std.specs.Prelude.{◌≡◌, ◌∷◌, [], ◌-◌, ◌<◌, drop, length, IfOk, OnOk};
-ghost use Rattle.ql_base.specs.Names.{AreDistinct};
-ghost use Rattle.ql_expand.specs.View.{letters, binder_of};
-ghost use Rattle.ql_scope.specs.Storing.{offset_named};
+ghost use Rattle.std.specs.Prelude.{◌≡◌, ◌++◌, ◌∷◌, [], ◌-◌, ◌<◌, List, take, length, IfOk, OnOk};
+ghost use Rattle.ql_expand.specs.Core as core;
+ghost use Rattle.ql_expand.specs.View.{binder_of};
+ghost use Rattle.ql_scope.specs.Scope.{is_among, names_at};
+ghost use Rattle.ql_scope.specs.Stored.{inside};
+ghost use Rattle.ql_scope.specs.CheckTables.{innermost_named, offset_named};
 
-use ql_base::names::Names;
-use ql_expand::program::{Binder, VarName};
+use crate::table::{reach, replace, value_at};
+use ql_expand::core_form::{Binder, VarName};
 use std::alloc::{AllocError, Global};
 use std::marker::Model;
 
+/// The innermost binder of a name.
+#[derive(Clone, Copy)]
+pub struct Innermost {
+    /// How many binders are outside of it.
+    pub place: usize,
+    /// Its offset.
+    pub at: u64,
+}
+
 /// A binder above a place.
-#[derive(Drop)]
+#[derive(Clone, Copy)]
 pub struct Above {
     pub binder: Binder,
-    /// The offset of the binder of the same name outside of it, which it hides.
-    pub hides: Option<u64>,
+    /// The binder of the same name outside of it, which it hides.
+    pub hides: Option<Innermost>,
 }
 
-/// The binders above a place. A number that the table of names lacks is answered as want of memory,
-/// since there is no place for it.
+/// The binders above a place.
 #[derive(Drop)]
-pub struct BinderStack<'a> {
-    names: &'a Names,
+pub struct BinderStack {
     /// From the outermost on.
     row: Vec<Above>,
-    /// By number, the offset of the innermost binder of that name.
-    innermost: Vec<Option<u64>>,
+    /// By number, the innermost binder of that name.
+    innermost: Vec<Option<Innermost>>,
 }
 
-impl<'a> Model for BinderStack<'a> {
-    ghost use Rattle.ql_scope.specs.Storing.{Around, HasInnermost, binders_above};
+impl Model for BinderStack {
+    ghost use Rattle.std.specs.Prelude.{List};
+    ghost use Rattle.ql_expand.specs.Core.{Binder};
+    ghost use Rattle.ql_scope.specs.CheckTables.{HasInnermost, binders_of_row};
 
-    ghost Value = { Around };
+    ghost Value = { List Binder };
 
-    ghost view = { λ s. record { names = s.names.now; above = binders_above s.names.now s.row.items } };
+    ghost view = { λ s. binders_of_row s.row.items };
 
-    ghost invariant = { λ s. HasInnermost s.names.now s.row.items s.innermost.items };
+    ghost invariant = { λ s. HasInnermost s.row.items s.innermost.items };
 }
 
-#[tactic(auto, using(crate::proofs::Above::above_length, crate::proofs::Above::above_last, crate::proofs::Above::down_more, crate::proofs::Above::pushed_named, crate::proofs::Above::pushed_hidden, crate::proofs::Above::popped_named, crate::proofs::Above::popped_hidden, crate::proofs::Above::last_numbered))]
-impl<'a> BinderStack<'a> {
-    /// No binders.
-    pub fn new(alloc: Global, names: &'a Names) -> Result<BinderStack<'a>, AllocError>
-        ensures empty { IfOk result (λ s. s ≡ record { names = names.now; above = [] }) }
-        ensures distinct { IfOk result (λ s. AreDistinct names.now) }
+impl BinderStack {
+    /// No binders, with room for so many names.
+    pub fn new(alloc: Global, names: u32) -> Result<BinderStack, AllocError>
+        ensures { IfOk result (λ s. s ≡ []) }
     {
-        let innermost = vec![in alloc; None; names.len() as usize]?;
+        let innermost = vec![in alloc; None; names as usize]?;
         Ok(BinderStack {
-            names,
             row: Vec::new(alloc),
             innermost,
         })
@@ -56,27 +64,48 @@ impl<'a> BinderStack<'a> {
 
     /// How many binders there are.
     pub fn len(&self) -> usize
-        ensures { result ≡ length self.now.above }
+        ensures { result ≡ length self.now }
     {
         self.row.len()
     }
 
     /// The offset of the innermost binder with the name of this number.
-    pub fn innermost(&self, number: u32) -> Result<Option<u64>, AllocError>
-        ensures offset { IfOk result (λ at. at ≡ offset_named self.now.above (letters self.now.names number)) }
-        ensures numbered { IfOk result (λ at. number < length self.now.names) }
-        ensures distinct { IfOk result (λ at. AreDistinct self.now.names) }
+    pub fn innermost(&self, number: u32) -> Option<u64>
+        ensures { result ≡ offset_named (inside self.now []) number }
     {
-        if number >= self.names.len() {
-            return Err(AllocError);
+        match self.binder(number) {
+            Some(binder) => Some(binder.at),
+            None => None,
         }
-        Ok(self.innermost[number as usize])
+    }
+
+    /// Whether a binder inside so many others has the name of this number.
+    pub fn is_named_inside(&self, outer: usize, number: u32) -> bool
+        ensures { (before after : List core.Binder) → self.now ≡ before ++ after → outer ≡ length before → result ≡ is_among number (names_at after) }
+    {
+        match self.binder(number) {
+            Some(binder) => outer <= binder.place,
+            None => false,
+        }
+    }
+
+    /// Whether a binder has the name of this number.
+    pub fn is_named(&self, number: u32) -> bool
+        ensures { result ≡ is_among number (names_at self.now) }
+    {
+        self.is_named_inside(0, number)
+    }
+
+    // The innermost binder with the name of this number.
+    fn binder(&self, number: u32) -> Option<Innermost>
+        ensures { result ≡ innermost_named (inside self.now []) number }
+    {
+        value_at(&self.innermost, number)
     }
 
     /// Adds a binder inside the others.
     pub fn push(&mut self, binder: Binder) -> Result<(), AllocError>
-        ensures above { OnOk result (self.new ≡ record self.old { above = binder_of self.old.names binder ∷ self.old.above }) }
-        ensures names { self.new.names ≡ self.old.names }
+        ensures { OnOk result (self.new ≡ self.old ++ binder_of binder ∷ []) }
     {
         let VarName::Sym(number) = binder.name else {
             self.row.push(Above {
@@ -85,19 +114,20 @@ impl<'a> BinderStack<'a> {
             })?;
             return Ok(());
         };
-        if number >= self.names.len() {
-            return Err(AllocError);
-        }
-        let place = number as usize;
-        let hides = self.innermost[place];
+        let hides = value_at(&self.innermost, number);
+        let here = Innermost {
+            place: self.row.len(),
+            at: binder.at.0,
+        };
+        reach(&mut self.innermost, number)?;
         self.row.push(Above { binder, hides })?;
-        self.innermost[place] = Some(binder.at.0);
+        replace(&mut self.innermost, number, Some(here));
         Ok(())
     }
 
     /// Keeps so many binders from the outermost on.
     pub fn keep(&mut self, len: usize)
-        ensures { self.new ≡ record self.old { above = drop (length self.old.above - len) self.old.above } }
+        ensures { self.new ≡ take len self.old }
     {
         while self.row.len() > len {
             self.pop();
@@ -106,11 +136,12 @@ impl<'a> BinderStack<'a> {
 
     // Takes the innermost binder away.
     fn pop(&mut self)
-        ensures { self.new ≡ record self.old { above = drop 1 self.old.above } }
+        ensures shorter { 0 < length self.old → length self.new < length self.old }
+        ensures taken { self.new ≡ take (length self.old - 1) self.old }
     {
         if let Some(last) = self.row.pop() {
             if let VarName::Sym(number) = last.binder.name {
-                self.innermost[number as usize] = last.hides;
+                replace(&mut self.innermost, number, last.hides);
             }
         }
     }

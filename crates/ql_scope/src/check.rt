@@ -1,20 +1,15 @@
 //! The check of a program.
 
 ghost use Rattle.std.specs.Prelude.{◌≡◌, ℕ, IfOk, Some, Err};
-ghost use Rattle.ql_base.specs.Names.{AreDistinct};
-ghost use Rattle.ql_expand.specs.View.{program_of};
-ghost use Rattle.ql_scope.specs.Fault.{least};
-ghost use Rattle.ql_scope.specs.Scope.{program_faults, scope_fault};
-ghost use Rattle.ql_scope.specs.Scoped.{IsExpanded};
-ghost use Rattle.ql_scope.specs.ScopedIn.{IsScopedIn};
+ghost use Rattle.ql_base.specs.Refusal.{least};
+ghost use Rattle.ql_expand.specs.ProgramView.{program_of};
+ghost use Rattle.ql_scope.specs.Scope.{InScope, program_faults, scope_fault};
+ghost use Rattle.ql_scope.specs.Scoped.{HasStored, IsExpanded};
 ghost use Rattle.ql_scope.specs.declared.check.ScopeRefusal.TheVariants.{Bad};
 
-use crate::checker::Checker;
-use crate::fault::Fault;
-use crate::lists::{check_functions, check_globals};
+use crate::repeats::{check_functions, check_globals};
 use crate::scoped::Scoped;
-use crate::stored::stored_variables;
-use ql_base::names::Names;
+use crate::walk::{Found, Walk};
 use ql_expand::program::Program;
 use std::alloc::{AllocError, Global};
 use thiserror::Error;
@@ -34,41 +29,37 @@ pub enum ScopeRefusal {
     Memory(AllocError),
 }
 
-/// Checks a program that forms expand to, with its table of names. Of its faults the first one is
-/// answered. A variable, function or global whose number the table lacks is answered as want of
-/// memory.
-pub fn check(alloc: Global, names: &Names, program: Program) -> Result<Scoped, ScopeRefusal>
-    requires expanded { IsExpanded names.now program }
-    ensures ok { IfOk result (λ scoped. scoped.program ≡ program) }
-    ensures in_scope { IfOk result (λ scoped. IsScopedIn names.now scoped) }
-    ensures bad { (kind at : ℕ) → result ≡ Err (Bad kind at) → scope_fault (program_of names.now program) ≡ Some (at, kind) }
+/// Checks a program that forms expand to. Of its faults the first one is answered.
+pub fn check<'a>(alloc: Global, program: Program<'a>) -> Result<Scoped<'a>, ScopeRefusal>
+    requires expanded { IsExpanded (program_of program) program.names }
+    ensures ok { IfOk result (λ scoped. scoped.program ≡ program.entry) }
+    ensures in_scope { IfOk result (λ scoped. InScope (program_of program.entry)) }
+    ensures bad { (kind at : ℕ) → result ≡ Err (Bad kind at) → scope_fault (program_of program.entry) ≡ Some (at, kind) }
 {
-    match first_fault(alloc, names, &program) {
+    match found_in(alloc, &program) {
         Err(error) => Err(ScopeRefusal::Memory(error)),
-        Ok(Some(fault)) => Err(ScopeRefusal::Bad {
-            kind: fault.kind.number(),
-            at: fault.at,
-        }),
-        Ok(None) => match stored_variables(alloc, names, &program) {
-            Err(error) => Err(ScopeRefusal::Memory(error)),
-            Ok(stored) => Ok(Scoped { program, stored }),
+        Ok(Found { first, stored }) => match first {
+            Some(fault) => Err(ScopeRefusal::Bad {
+                kind: fault.kind.number(),
+                at: fault.at.0,
+            }),
+            None => Ok(Scoped { program, stored }),
         },
     }
 }
 
-// The first fault of a program.
-#[tactic(auto, using(crate::proofs::Found::whole, crate::proofs::Found::heads))]
-fn first_fault(alloc: Global, names: &Names, program: &Program) -> Result<Option<Fault>, AllocError>
-    ensures first { IfOk result (λ fault. fault ≡ least (program_faults (program_of names.now program.now))) }
-    ensures distinct { IfOk result (λ fault. AreDistinct names.now) }
+// The first fault of a program, and the variables that some `setq` names.
+fn found_in<'a>(alloc: Global, program: &Program<'a>) -> Result<Found, AllocError>
+    ensures first { IfOk result (λ found. found.first ≡ least (program_faults (program_of program.now))) }
+    ensures stored { IfOk result (λ found. HasStored (program_of program.now) found.stored.keys) }
 {
     let functions = program.functions.as_slice();
     let body = program.body.as_slice();
     let mut first = None;
-    check_functions(alloc, names, &mut first, functions)?;
-    check_globals(alloc, names, &mut first, body)?;
-    let mut checker = Checker::new(alloc, names, program, first)?;
-    checker.functions(functions)?;
-    checker.cores(body, false)?;
-    Ok(checker.first())
+    check_functions(alloc, program.names, &mut first, functions)?;
+    check_globals(alloc, program.names, &mut first, body)?;
+    let mut walk = Walk::new(alloc, program, first)?;
+    walk.functions(functions)?;
+    walk.cores(body, false)?;
+    Ok(walk.finish())
 }

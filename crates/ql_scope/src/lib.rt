@@ -4,15 +4,9 @@
 
 mod binder_stack;
 pub mod check;
-mod checker;
-pub mod fault;
-mod functions;
-mod lists;
-mod name_stack;
+pub mod laws;
+mod repeats;
 pub mod scoped;
-#[cfg(test)]
-mod slow;
-mod stored;
-#[cfg(test)]
-mod tests;
+mod table;
+mod variable;
 mod walk;

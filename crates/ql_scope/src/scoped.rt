@@ -1,29 +1,30 @@
 //! Programs that are in scope.
 
-ghost use Rattle.std.specs.Prelude.{◌≡◌, ℕ, List, false};
+ghost use Rattle.std.specs.Prelude.{◌≡◌};
 ghost use Rattle.ql_expand.specs.Core as core;
-ghost use Rattle.ql_expand.specs.View.{name_of, program_of};
-ghost use Rattle.ql_expand.specs.declared.program.VarName.TheVariants.{Hidden};
-ghost use Rattle.ql_scope.specs.Scoped.{HasScope, IsNumbered, IsScoped};
+ghost use Rattle.ql_expand.specs.View.{name_of};
+ghost use Rattle.ql_expand.specs.ProgramView.{program_of};
+ghost use Rattle.ql_scope.specs.Scoped.{HasScope};
 ghost use Rattle.ql_scope.specs.Stored.{is_stored};
 
-use crate::stored::Variable;
+use crate::variable::Variable;
 use indexmap::IndexSet;
 use ql_base::numbers::Offset;
-use ql_expand::program::{Program, VarName};
+use ql_expand::core_form::VarName;
+use ql_expand::program::Program;
 
 /// A program in which nothing is wrong with the names.
 #[derive(Drop)]
-pub struct Scoped {
-    pub program: Program,
+pub struct Scoped<'a> {
+    pub program: Program<'a>,
     /// The variables that some `setq` names.
     pub(crate) stored: IndexSet<Variable>,
-    pub ghost scoped: { ∥ IsScoped program stored.keys ∥₁ },
+    pub ghost scoped: { ∥ HasScope (program_of program) program.names stored.keys ∥₁ },
 }
 
-impl Scoped {
+impl<'a> Scoped<'a> {
     /// The program.
-    pub fn program(&self) -> &Program
+    pub fn program(&self) -> &Program<'a>
         ensures { result.now ≡ self.now.program }
     {
         &self.program
@@ -31,8 +32,7 @@ impl Scoped {
 
     /// Whether some `setq` names the variable of the binder with this offset and name.
     pub fn is_stored(&self, binder: Offset, name: &VarName) -> bool
-        ensures stored { (names : List (List ℕ)) → HasScope names self.now.program self.now.stored.keys → IsNumbered names name.now → result ≡ is_stored (program_of names self.now.program) (core.binder binder.0 (name_of names name.now)) }
-        ensures hidden { (n : ℕ) → name.now ≡ Hidden n → result ≡ false }
+        ensures { result ≡ is_stored (program_of self.now.program) (core.binder binder.0 (name_of name.now)) }
     {
         match *name {
             VarName::Sym(number) => self.stored.contains(&Variable {

@@ -1,69 +1,142 @@
-//! The way through the forms of a program.
+//! The way through the forms of a program, with the binders above each of them.
 
-ghost use Rattle.std.specs.Prelude.{◌≡◌, ◌++◌, ℕ, false, List, OnOk, map};
-ghost use Rattle.ql_expand.specs.View.{core_of, node_of, cores_of, binder_of, binders_of, bounds_of, name_of, letters, function_of};
-ghost use Rattle.ql_scope.specs.Fault.{first_of};
+ghost use Rattle.std.specs.Prelude.{◌≡◌, ◌≤◌, ◌++◌, ◌∷◌, List, [], false, IfOk, OnOk, length, map, take};
+ghost use Rattle.ql_expand.specs.Core as core;
+ghost use Rattle.ql_expand.specs.Core.{lambda};
+ghost use Rattle.ql_base.specs.Refusal.{fault, first_of, where_true};
+ghost use Rattle.ql_expand.specs.Primitives.{count_of};
+ghost use Rattle.ql_expand.specs.View.{core_of, node_of, cores_of, binder_of, binders_of, bounds_of, name_of, function_of};
 ghost use Rattle.ql_scope.specs.Scope as rules;
-ghost use Rattle.ql_scope.specs.Scope.{
-  core_faults,
-  node_faults,
-  cores_faults,
-  arguments_faults,
-  values_faults,
-  list_faults,
-  use_faults,
-  count_faults,
-  cleanup_faults,
-  functions_faults,
-  binders_in,
-  names_at,
-  name_at,
-  under,
-};
-ghost use Rattle.ql_scope.specs.Checking.{place_in, with_names};
+ghost use Rattle.ql_scope.specs.Scope.{core_faults, node_faults, cores_faults, arguments_faults, values_faults, list_faults, binder_faults, use_faults, count_faults, cleanup_faults, functions_faults, binders_in, names_at, head_of, parameter_count};
+ghost use Rattle.ql_scope.specs.Stored.{stored_in, stored_in_node, stored_in_cores, stored_in_values, stored_in_functions, binder_set};
+ghost use Rattle.ql_scope.specs.CheckWalk.{Adds, above, place_in, seen_under, variable_of};
 
-use crate::checker::Checker;
-use crate::fault::FaultKind;
-use crate::lists::MOST;
+use crate::binder_stack::BinderStack;
+use crate::table::{numbers_among, parameter_counts, value_at};
+use crate::variable::Variable;
+use indexmap::IndexSet;
 use ql_base::numbers::Offset;
-use ql_expand::program::{Binder, Bound, Core, Function, Node, VarName};
-use std::alloc::AllocError;
+use ql_base::refusal::{Fault, FaultKind, find_if};
+use ql_expand::core_form::{Binder, Bound, Core, Function, Node, VarName};
+use ql_expand::program::Program;
+use std::alloc::{AllocError, Global};
+use std::marker::Model;
 
-impl<'a> Checker<'a> {
-    /// Finds what is wrong in functions, which see no variables but their parameters.
-    #[tactic(auto, using(crate::proofs::Found::first_append))]
-    pub fn functions(&mut self, functions: &[Function]) -> Result<(), AllocError>
-        ensures first { OnOk result (self.new.first ≡ first_of self.old.first (functions_faults (place_in self.old.around false) (map (function_of self.old.around.names) functions.now))) }
-        ensures around { OnOk result (self.new.around ≡ self.old.around) }
+/// What is found on the way: the first fault, and the variables that some `setq` names.
+#[derive(Drop)]
+pub struct Found {
+    pub first: Option<Fault>,
+    pub stored: IndexSet<Variable>,
+}
+
+/// How many parameters or bindings a list has at most, and how many arguments `funcall`.
+const MOST: usize = 16;
+
+/// A walk through a program: what the place at hand sees, and what was found so far.
+#[derive(Drop)]
+pub struct Walk<'p, 'a> {
+    program: &'p Program<'a>,
+    /// By number, how many parameters the first function of that name has.
+    parameters: Vec<Option<usize>>,
+    /// By number, whether it is that of a global.
+    globals: Vec<Option<()>>,
+    above: BinderStack,
+    first: Option<Fault>,
+    stored: IndexSet<Variable>,
+}
+
+impl<'p, 'a> Model for Walk<'p, 'a> {
+    ghost use Rattle.std.specs.Prelude.{map};
+    ghost use Rattle.ql_expand.specs.View.{function_of};
+    ghost use Rattle.ql_scope.specs.Scope.{head_of};
+    ghost use Rattle.ql_scope.specs.CheckTables.{HasTables};
+    ghost use Rattle.ql_scope.specs.CheckWalk.{Walk, variable_of};
+
+    ghost Value = { Walk };
+
+    ghost view = { λ s. record {
+      seen = record {
+        functions = map head_of (map function_of s.program.now.functions);
+        globals = s.program.now.globals;
+        row = s.above;
+      };
+      first = s.first;
+      stored = map variable_of s.stored.keys;
+    } };
+
+    ghost invariant = { λ s. HasTables (map head_of (map function_of s.program.now.functions)) s.program.now.globals s.parameters.items s.globals.items };
+}
+
+impl<'p, 'a> Walk<'p, 'a> {
+    /// A walk at the top of a program, with the first fault so far.
+    pub fn new(
+        alloc: Global,
+        program: &'p Program<'a>,
+        first: Option<Fault>,
+    ) -> Result<Walk<'p, 'a>, AllocError>
+        ensures { IfOk result (λ s. s ≡ record {
+          seen = record {
+            functions = map head_of (map function_of program.now.functions);
+            globals = program.now.globals;
+            row = [];
+          };
+          first = first;
+          stored = [];
+        }) }
+    {
+        let parameters = parameter_counts(alloc, program.names, program.functions.as_slice())?;
+        let globals = numbers_among(alloc, program.names, program.globals.as_slice())?;
+        Ok(Walk {
+            program,
+            parameters,
+            globals,
+            above: BinderStack::new(alloc, program.names)?,
+            first,
+            stored: IndexSet::new(alloc),
+        })
+    }
+
+    /// The first fault, and the variables that some `setq` names.
+    pub fn finish(self) -> Found
+        ensures first { result.first ≡ self.entry.first }
+        ensures stored { map variable_of result.stored.keys ≡ self.entry.stored }
+    {
+        let Walk { first, stored, .. } = self;
+        Found { first, stored }
+    }
+
+    /// Functions, which see no variables but their parameters.
+    pub fn functions(&mut self, functions: &[Function<'a>]) -> Result<(), AllocError>
+        requires { self.old.seen.row ≡ [] }
+        ensures { OnOk result (Adds self.old self.new (λ s. functions_faults (place_in s false) (map function_of functions.now)) (λ s. stored_in_functions (map function_of functions.now))) }
     {
         for function in functions {
-            self.under_params(function.params.as_slice(), &function.body, false)?;
+            self.under_params(&function.body, function.params.as_slice(), false)?;
         }
         Ok(())
     }
 
-    /// Finds what is wrong in a core form at the place at hand, which may stand in a cleanup.
+    /// A core form at the place at hand, which may stand in a cleanup.
     #[cycle(walk)]
-    #[tactic(auto, using(crate::proofs::Found::first_append))]
-    pub fn core(&mut self, core: &Core, cleanup: bool) -> Result<(), AllocError>
-        ensures first { OnOk result (self.new.first ≡ first_of self.old.first (core_faults (place_in self.old.around cleanup) (core_of self.old.around.names core.now))) }
-        ensures around { OnOk result (self.new.around ≡ self.old.around) }
+    pub fn core(&mut self, core: &Core<'a>, cleanup: bool) -> Result<(), AllocError>
+        ensures { OnOk result (Adds self.old self.new (λ s. core_faults (place_in s cleanup) (core_of core.now)) (λ s. stored_in (above s) (core_of core.now))) }
     {
         self.cleanup_form(core, cleanup);
         self.node(core.at, &core.node, cleanup)
     }
 
     #[cycle(walk)]
-    #[tactic(auto, using(crate::proofs::Found::first_append))]
-    fn node(&mut self, at: Offset, node: &Node, cleanup: bool) -> Result<(), AllocError>
-        ensures first { OnOk result (self.new.first ≡ first_of self.old.first (node_faults (place_in self.old.around cleanup) at.0 (node_of self.old.around.names node.now))) }
-        ensures around { OnOk result (self.new.around ≡ self.old.around) }
+    fn node(&mut self, at: Offset, node: &Node<'a>, cleanup: bool) -> Result<(), AllocError>
+        ensures { OnOk result (Adds self.old self.new (λ s. node_faults (place_in s cleanup) at.0 (node_of node.now)) (λ s. stored_in_node (above s) (node_of node.now))) }
     {
         match node {
             Node::Const(_) => Ok(()),
-            Node::Var(name) => self.used(*name, at),
+            Node::Var(name) => {
+                self.used(*name, at);
+                Ok(())
+            }
             Node::Setq { name, named, value } => {
-                self.used(*name, *named)?;
+                self.set(*name, *named)?;
                 self.core(value.get(), cleanup)
             }
             Node::If { test, then, other } => {
@@ -74,12 +147,12 @@ impl<'a> Checker<'a> {
             Node::Progn(forms) => self.cores(forms.as_slice(), cleanup),
             Node::Let { binds, body } => {
                 self.values(binds.as_slice(), cleanup)?;
-                self.under_bound(body.get(), binds.as_slice(), cleanup)
+                self.under_variables(body.get(), binds.as_slice(), cleanup)
             }
             Node::Prim { args, .. } => self.cores(args.as_slice(), cleanup),
             Node::Print(form) => self.core(form.get(), cleanup),
             Node::Call { name, named, args } => {
-                self.called(*name, *named, args.as_slice())?;
+                self.called(*name, *named, args.as_slice());
                 self.cores(args.as_slice(), cleanup)
             }
             Node::Funcall { fun, args, .. } => {
@@ -87,16 +160,16 @@ impl<'a> Checker<'a> {
                 self.arguments(args.as_slice(), cleanup)
             }
             Node::Lambda { params, body } => {
-                self.under_params(params.as_slice(), body.get(), cleanup)
+                self.under_params(body.get(), params.as_slice(), cleanup)
             }
             Node::Qlet { prop, binds, body } => {
                 self.core(prop.get(), cleanup)?;
                 self.values(binds.as_slice(), cleanup)?;
-                self.under_bound(body.get(), binds.as_slice(), cleanup)
+                self.under_variables(body.get(), binds.as_slice(), cleanup)
             }
             Node::Qlambda { prop, params, body } => {
                 self.core(prop.get(), cleanup)?;
-                self.under_params(params.as_slice(), body.get(), cleanup)
+                self.under_params(body.get(), params.as_slice(), cleanup)
             }
             Node::Catch { tag, body } => {
                 self.core(tag.get(), cleanup)?;
@@ -121,12 +194,10 @@ impl<'a> Checker<'a> {
         }
     }
 
-    /// Finds what is wrong in core forms at the place at hand.
+    /// Core forms at the place at hand.
     #[cycle(walk)]
-    #[tactic(auto, using(crate::proofs::Found::first_append))]
-    pub fn cores(&mut self, cores: &[Core], cleanup: bool) -> Result<(), AllocError>
-        ensures first { OnOk result (self.new.first ≡ first_of self.old.first (cores_faults (place_in self.old.around cleanup) (cores_of self.old.around.names cores.now))) }
-        ensures around { OnOk result (self.new.around ≡ self.old.around) }
+    pub fn cores(&mut self, cores: &[Core<'a>], cleanup: bool) -> Result<(), AllocError>
+        ensures { OnOk result (Adds self.old self.new (λ s. cores_faults (place_in s cleanup) (cores_of cores.now)) (λ s. stored_in_cores (above s) (cores_of cores.now))) }
     {
         for core in cores {
             self.core(core, cleanup)?;
@@ -136,10 +207,8 @@ impl<'a> Checker<'a> {
 
     // The arguments of `funcall`.
     #[cycle(walk)]
-    #[tactic(auto, using(crate::proofs::Found::first_append))]
-    fn arguments(&mut self, cores: &[Core], cleanup: bool) -> Result<(), AllocError>
-        ensures first { OnOk result (self.new.first ≡ first_of self.old.first (arguments_faults (place_in self.old.around cleanup) 0 (cores_of self.old.around.names cores.now))) }
-        ensures around { OnOk result (self.new.around ≡ self.old.around) }
+    fn arguments(&mut self, cores: &[Core<'a>], cleanup: bool) -> Result<(), AllocError>
+        ensures { OnOk result (Adds self.old self.new (λ s. arguments_faults (place_in s cleanup) 0 (cores_of cores.now)) (λ s. stored_in_cores (above s) (cores_of cores.now))) }
     {
         for (i, core) in cores.iter().enumerate() {
             self.find_if(i == MOST, FaultKind::TooMany, core.at);
@@ -148,12 +217,10 @@ impl<'a> Checker<'a> {
         Ok(())
     }
 
-    // The values of bindings.
+    // The values of bindings, which don't see the variables.
     #[cycle(walk)]
-    #[tactic(auto, using(crate::proofs::Found::first_append))]
-    fn values(&mut self, binds: &[Bound], cleanup: bool) -> Result<(), AllocError>
-        ensures first { OnOk result (self.new.first ≡ first_of self.old.first (values_faults (place_in self.old.around cleanup) (bounds_of self.old.around.names binds.now))) }
-        ensures around { OnOk result (self.new.around ≡ self.old.around) }
+    fn values(&mut self, binds: &[Bound<'a>], cleanup: bool) -> Result<(), AllocError>
+        ensures { OnOk result (Adds self.old self.new (λ s. values_faults (place_in s cleanup) (bounds_of binds.now)) (λ s. stored_in_values (above s) (bounds_of binds.now))) }
     {
         for bound in binds {
             self.core(&bound.value, cleanup)?;
@@ -161,117 +228,157 @@ impl<'a> Checker<'a> {
         Ok(())
     }
 
-    // The variables of bindings, and a body under them.
+    // A body under the variables of bindings.
     #[cycle(walk)]
-    #[tactic(auto, using(crate::proofs::Found::first_append, crate::proofs::Found::back))]
-    fn under_bound(&mut self, body: &Core, binds: &[Bound], cleanup: bool) -> Result<(), AllocError>
-        ensures first { OnOk result (self.new.first ≡ first_of self.old.first (list_faults (place_in self.old.around cleanup) (binders_in (bounds_of self.old.around.names binds.now)) ++ core_faults (under (binders_in (bounds_of self.old.around.names binds.now)) (place_in self.old.around cleanup)) (core_of self.old.around.names body.now))) }
-        ensures around { OnOk result (self.new.around ≡ self.old.around) }
-    {
-        self.bound(binds)?;
-        let depth = self.depth();
-        self.bind_bound(binds)?;
-        self.core(body, cleanup)?;
-        self.leave(depth);
-        Ok(())
-    }
-
-    // Parameters, and a body under them.
-    #[cycle(walk)]
-    #[tactic(auto, using(crate::proofs::Found::first_append, crate::proofs::Found::back))]
-    fn under_params(
+    fn under_variables(
         &mut self,
-        params: &[Binder],
-        body: &Core,
+        body: &Core<'a>,
+        binds: &[Bound<'a>],
         cleanup: bool,
     ) -> Result<(), AllocError>
-        ensures first { OnOk result (self.new.first ≡ first_of self.old.first (list_faults (place_in self.old.around cleanup) (binders_of self.old.around.names params.now) ++ core_faults (under (binders_of self.old.around.names params.now) (place_in self.old.around cleanup)) (core_of self.old.around.names body.now))) }
-        ensures around { OnOk result (self.new.around ≡ self.old.around) }
+        ensures { OnOk result (Adds self.old self.new (λ s. node_faults (place_in s cleanup) 0 (lambda (binders_in (bounds_of binds.now)) (core_of body.now))) (λ s. stored_in_node (above s) (lambda (binders_in (bounds_of binds.now)) (core_of body.now)))) }
     {
-        self.params(params)?;
-        let depth = self.depth();
+        let outer = self.depth();
+        self.bind_variables(binds)?;
+        self.core(body, cleanup)?;
+        self.leave(outer);
+        Ok(())
+    }
+
+    // A body under parameters.
+    #[cycle(walk)]
+    fn under_params(
+        &mut self,
+        body: &Core<'a>,
+        params: &[Binder],
+        cleanup: bool,
+    ) -> Result<(), AllocError>
+        ensures { OnOk result (Adds self.old self.new (λ s. node_faults (place_in s cleanup) 0 (lambda (binders_of params.now) (core_of body.now))) (λ s. stored_in_node (above s) (lambda (binders_of params.now) (core_of body.now)))) }
+    {
+        let outer = self.depth();
         self.bind_params(params)?;
         self.core(body, cleanup)?;
-        self.leave(depth);
+        self.leave(outer);
         Ok(())
     }
 
-    // Goes under parameters.
-    #[tactic(auto, using(crate::proofs::Found::regroup))]
+    // Goes under parameters, and finds what is wrong in their list.
     fn bind_params(&mut self, params: &[Binder]) -> Result<(), AllocError>
-        ensures first { OnOk result (self.new.first ≡ self.old.first) }
-        ensures around { OnOk result (self.new.around ≡ with_names (names_at (binders_of self.old.around.names params.now)) self.old.around) }
+        ensures first { OnOk result (self.new.first ≡ first_of self.old.first (list_faults (place_in self.old.seen false) (binders_of params.now))) }
+        ensures stored { OnOk result (self.new.stored ≡ self.old.stored) }
+        ensures seen { OnOk result (self.new.seen ≡ seen_under (binders_of params.now) self.old.seen) }
     {
+        let outer = self.depth();
         for binder in params {
-            self.bind_one(binder)?;
+            self.bind(outer, *binder)?;
         }
         Ok(())
     }
 
-    // Goes under the variables of bindings.
-    #[tactic(auto, using(crate::proofs::Found::regroup))]
-    fn bind_bound(&mut self, binds: &[Bound]) -> Result<(), AllocError>
-        ensures first { OnOk result (self.new.first ≡ self.old.first) }
-        ensures around { OnOk result (self.new.around ≡ with_names (names_at (binders_in (bounds_of self.old.around.names binds.now))) self.old.around) }
+    // Goes under the variables of bindings, and finds what is wrong in their list.
+    fn bind_variables(&mut self, binds: &[Bound<'a>]) -> Result<(), AllocError>
+        ensures first { OnOk result (self.new.first ≡ first_of self.old.first (list_faults (place_in self.old.seen false) (binders_in (bounds_of binds.now)))) }
+        ensures stored { OnOk result (self.new.stored ≡ self.old.stored) }
+        ensures seen { OnOk result (self.new.seen ≡ seen_under (binders_in (bounds_of binds.now)) self.old.seen) }
     {
+        let outer = self.depth();
         for bound in binds {
-            self.bind_one(&bound.binder)?;
+            self.bind(outer, bound.binder)?;
         }
         Ok(())
     }
 
-    fn bind_one(&mut self, binder: &Binder) -> Result<(), AllocError>
-        ensures first { OnOk result (self.new.first ≡ self.old.first) }
-        ensures around { OnOk result (self.new.around ≡ with_names (name_at (binder_of self.old.around.names binder.now)) self.old.around) }
+    // Goes under a binder, and finds what is wrong with it, where so many binders are outside of its list.
+    fn bind(&mut self, outer: usize, binder: Binder) -> Result<(), AllocError>
+        requires { outer ≤ length self.old.seen.row }
+        ensures first { (before listed : List core.Binder) → self.old.seen.row ≡ before ++ listed → outer ≡ length before → OnOk result (self.new.first ≡ first_of self.old.first (binder_faults self.old.seen.globals (names_at listed) (length listed) (binder_of binder))) }
+        ensures stored { OnOk result (self.new.stored ≡ self.old.stored) }
+        ensures seen { OnOk result (self.new.seen ≡ seen_under (binder_of binder ∷ []) self.old.seen) }
     {
-        match binder.name {
-            VarName::Sym(name) => self.bind(name),
-            VarName::Hidden(_) => Ok(()),
+        let listed = self.above.len() - outer;
+        find_if(
+            &mut self.first,
+            listed == MOST,
+            FaultKind::TooMany,
+            binder.at,
+        );
+        if let VarName::Sym(name) = binder.name {
+            let is_listed = self.above.is_named_inside(outer, name);
+            find_if(&mut self.first, is_listed, FaultKind::Twice, binder.at);
+            let is_global = value_at(&self.globals, name).is_some();
+            find_if(&mut self.first, is_global, FaultKind::Shadow, binder.at);
         }
+        self.above.push(binder)
+    }
+
+    // How many binders are above.
+    fn depth(&self) -> usize
+        ensures { result ≡ length self.now.seen.row }
+    {
+        self.above.len()
+    }
+
+    // Goes back to where so many binders were above.
+    fn leave(&mut self, outer: usize)
+        ensures { self.new ≡ record self.old { seen = record self.old.seen { row = take outer self.old.seen.row } } }
+    {
+        self.above.keep(outer);
     }
 
     // A use of a variable.
-    fn used(&mut self, name: VarName, at: Offset) -> Result<(), AllocError>
-        ensures first { OnOk result (self.new.first ≡ first_of self.old.first (use_faults (place_in self.old.around false) at.0 (name_of self.old.around.names name))) }
-        ensures around { OnOk result (self.new.around ≡ self.old.around) }
+    fn used(&mut self, name: VarName, at: Offset)
+        ensures { Adds self.old self.new (λ s. use_faults (place_in s false) at.0 (name_of name)) (λ s. []) }
     {
         let VarName::Sym(name) = name else {
+            return;
+        };
+        let is_seen = self.above.is_named(name) || value_at(&self.globals, name).is_some();
+        find_if(&mut self.first, !is_seen, FaultKind::Unbound, at);
+    }
+
+    // A `setq` of this variable.
+    fn set(&mut self, name: VarName, named: Offset) -> Result<(), AllocError>
+        ensures { OnOk result (Adds self.old self.new (λ s. use_faults (place_in s false) named.0 (name_of name)) (λ s. binder_set (above s) (name_of name))) }
+    {
+        self.used(name, named);
+        let VarName::Sym(number) = name else {
             return Ok(());
         };
-        let is_bound = self.is_bound(name)?;
-        let is_global = self.is_global(name)?;
-        self.find_unless(is_bound || is_global, FaultKind::Unbound, at);
+        if let Some(at) = self.above.innermost(number) {
+            self.stored.insert(Variable { at, name: number })?;
+        }
         Ok(())
     }
 
     // A call of a function of the program.
-    #[tactic(auto, using(crate::proofs::Opened::count_all))]
-    fn called(&mut self, name: u32, named: Offset, args: &[Core]) -> Result<(), AllocError>
-        ensures first { OnOk result (self.new.first ≡ first_of self.old.first (count_faults named.0 (rules.count_of (cores_of self.old.around.names args.now)) (rules.parameter_count self.old.around.functions (letters self.old.around.names name)))) }
-        ensures around { OnOk result (self.new.around ≡ self.old.around) }
+    fn called(&mut self, name: u32, named: Offset, args: &[Core<'a>])
+        ensures { Adds self.old self.new (λ s. count_faults named.0 (count_of (cores_of args.now)) (parameter_count s.functions name)) (λ s. []) }
     {
-        match self.parameters(name)? {
+        match value_at(&self.parameters, name) {
             None => self.find_if(true, FaultKind::NoFunction, named),
-            Some(count) => self.find_unless(args.len() == count, FaultKind::WrongCount, named),
+            Some(count) => self.find_if(args.len() != count, FaultKind::WrongCount, named),
         }
-        Ok(())
     }
 
     // A core form that may stand in a cleanup.
-    fn cleanup_form(&mut self, core: &Core, cleanup: bool)
-        ensures first { self.new.first ≡ first_of self.old.first (cleanup_faults (place_in self.old.around cleanup) core.now.at.0 (node_of self.old.around.names core.now.node)) }
-        ensures around { self.new.around ≡ self.old.around }
+    fn cleanup_form(&mut self, core: &Core<'a>, cleanup: bool)
+        ensures { Adds self.old self.new (λ s. cleanup_faults (place_in s cleanup) core.now.at.0 (node_of core.now.node)) (λ s. []) }
     {
-        if !cleanup {
-            return;
-        }
-        self.find_unless(may_clean(&core.node), FaultKind::BadCleanup, core.at);
+        let is_bad = cleanup && !may_clean(&core.node);
+        self.find_if(is_bad, FaultKind::BadCleanup, core.at);
+    }
+
+    // Finds this fault where the test holds.
+    fn find_if(&mut self, holds: bool, kind: FaultKind, at: Offset)
+        ensures { Adds self.old self.new (λ s. where_true holds (fault kind at.0)) (λ s. []) }
+    {
+        find_if(&mut self.first, holds, kind, at);
     }
 }
 
 // Whether a form of this kind may stand in a cleanup.
 fn may_clean(node: &Node) -> bool
-    ensures { (names : List (List ℕ)) → result ≡ rules.may_clean (node_of names node.now) }
+    ensures { result ≡ rules.may_clean (node_of node.now) }
 {
     matches!(
         node,

@@ -4,13 +4,13 @@ use Rattle.std.specs.Prelude.{Bool, true, false, if◌then◌else◌, leb, slice
 use Rattle.std.specs.List.{AllZip, list_all, list_any}
 use Rattle.ql_base.specs.declared.limits.Limits.{Limits}
 use Rattle.ql_base.specs.declared.limits.LimitKind.TheVariants.{Output}
-use Rattle.ql_meaning.specs.declared.world.Event.{Event}
-use Rattle.ql_meaning.specs.declared.world.Event.TheVariants.{Exit, EndOk}
-use Rattle.ql_meaning.specs.declared.world.Stop.{Stop}
-use Rattle.ql_meaning.specs.declared.world.Stop.TheVariants.{Fault, Limit}
-use Rattle.ql_meaning.specs.World.{World, with_process, counted, marked, with_tick, process, pid}
-use Rattle.ql_meaning.specs.Tick.{Want, works, errs, prints, ends, rests, Machine, can_step, printed, closed, row, tick}
-use Rattle.ql_meaning.specs.Run.{stop_of, run, story_of, told}
+use Rattle.ql_top.specs.declared.world.Event.{Event}
+use Rattle.ql_top.specs.declared.world.Event.TheVariants.{Exit, EndOk}
+use Rattle.ql_top.specs.declared.world.Stop.{Stop}
+use Rattle.ql_top.specs.declared.world.Stop.TheVariants.{Fault, Limit}
+use Rattle.ql_top.specs.World.{World, with_process, counted, marked, with_tick, process, pid}
+use Rattle.ql_top.specs.Tick.{Want, works, errs, prints, ends, rests, Machine, can_step, printed, closed, row, tick}
+use Rattle.ql_top.specs.Run.{stop_of, run, story_of, told}
 
 -- the events of a process that closes
 abbrev closing : ℕ → List Event → List Event

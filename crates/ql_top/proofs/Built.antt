@@ -1,14 +1,15 @@
 -- Where no form is left that can't be run yet.
 use Rattle.std.proofs.Common.{◌≡◌, ℕ, suc, List, [], ◌∷◌, ◌++◌, Option, Some, None, refl, sym, ap, ◌∙◌, ◌+◌, ◌<◌, length, drop, get_or, add-one, drop-cons, arith}
-use Rattle.std.specs.Prelude.{Bool, true, false, if◌then◌else◌, option_map, codes, ltb, ◌==◌}
+use Rattle.std.specs.Prelude.{Bool, true, false, if◌then◌else◌, option_map, ltb, ◌==◌}
 use Rattle.std.proofs.lemmas.Bool.Decides.{nat_tests}
-use Rattle.std.specs.Str.{bytes_eq}
+use Rattle.ql_base.specs.Reserved.{number}
+use Rattle.ql_base.specs.declared.reserved.Reserved.TheVariants.{Plus}
 use Rattle.ql_forms.specs.Form.{Form, atom, list, integer, symbol}
 use Rattle.ql_expand.specs.Core as expanded
 use Rattle.ql_expand.specs.Core.{core, Node, primitive, Cores, no_cores, and_core, Program, program}
 use Rattle.ql_expand.specs.View.{cores_of as view_cores}
-use Rattle.ql_expand.specs.declared.program.Core.{Core as Given}
-use Rattle.ql_meaning.specs.Core.{Core, constant, sum, print, with_both, constant_of, core_of, and_also, cores_of, program_of}
+use Rattle.ql_expand.specs.declared.core_form.Core.{Core as Given}
+use Rattle.ql_top.specs.Runnable.{Core, constant, sum, print, with_both, constant_of, core_of, and_also, cores_of, program_of}
 use Rattle.ql_top.specs.Unbuilt.{are_two, is_integer, unless_built, core_places, cores_places, sooner, first_of, first_unbuilt, unbuilt_places}
 
 pub first_append : (m : Option ℕ) (ns ks : List ℕ) → first_of m (ns ++ ks) ≡ first_of (first_of m ns) ks
@@ -34,11 +35,11 @@ none_both : (ns ks : List ℕ) → ns ++ ks ≡ [] → (ns ≡ []) × (ks ≡ []
 none_both [] ks e = (refl, e)
 none_both (n ∷ ns) ks e = absurd (cc)
 
-pub two_are : (names : List (List ℕ)) (cs : List Given) (b : Bool) → b ≡ (length cs == 2) → b ≡ are_two (view_cores names cs)
-two_are names [] b e = e
-two_are names (x ∷ []) b e = e
-two_are names (x ∷ (y ∷ [])) b e = e
-two_are names (x ∷ (y ∷ (z ∷ cs))) b e = let no : (length (x ∷ (y ∷ (z ∷ cs))) == 2) ≡ false = grind (arith, nat_tests) in e ∙ no
+pub two_are : (cs : List Given) (b : Bool) → b ≡ (length cs == 2) → b ≡ are_two (view_cores cs)
+two_are [] b e = e
+two_are (x ∷ []) b e = e
+two_are (x ∷ (y ∷ [])) b e = e
+two_are (x ∷ (y ∷ (z ∷ cs))) b e = let no : (length (x ∷ (y ∷ (z ∷ cs))) == 2) ≡ false = grind (arith, nat_tests) in e ∙ no
 
 -- a way through two or three parts
 pub two_found : (m now last : Option ℕ) (ns ks : List ℕ) → now ≡ first_of m ns → last ≡ first_of now ks → last ≡ first_of m (ns ++ ks)
@@ -85,7 +86,7 @@ constant_has at (list o fs t) e = absurd (cc)
 core_has : (c : expanded.Core) → core_places c ≡ [] → Has (core_of c)
 core_has (core at (expanded.constant f)) e = constant_has at f e
 core_has (core at (primitive w (and_core a (and_core b no_cores)))) e =
-    sum_has at (bytes_eq w (codes "+")) (core_places a) (core_places b) (core_of a) (core_of b) (core_has a) (core_has b) e
+    sum_has at (w == number Plus) (core_places a) (core_places b) (core_of a) (core_of b) (core_has a) (core_has b) e
 core_has (core at (expanded.print a)) e = print_has at (core_of a) (core_has a e)
 core_has (core at n) e = absurd (cc)
 
@@ -127,7 +128,7 @@ constant_built at (list o fs t) c e = absurd (cc)
 core_built : (c : expanded.Core) → IsBuilt (core_of c) (core_places c)
 core_built (core at (expanded.constant f)) = constant_built at f
 core_built (core at (primitive w (and_core a (and_core b no_cores)))) =
-    sum_built at (bytes_eq w (codes "+")) (core_places a) (core_places b) (core_of a) (core_of b) (core_built a) (core_built b)
+    sum_built at (w == number Plus) (core_places a) (core_places b) (core_of a) (core_of b) (core_built a) (core_built b)
 core_built (core at (expanded.print a)) = print_built at (core_places a) (core_of a) (core_built a)
 core_built (core at n) = λ x e. absurd (cc)
 

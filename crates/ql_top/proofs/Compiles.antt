@@ -1,15 +1,16 @@
 -- The code that is added for core forms.
 use Rattle.std.proofs.Common.{◌≡◌, ℕ, ◌<◌, ◌≤◌, List, [], ◌∷◌, ◌++◌, length, Option, Some, None, Result, Ok, Err, refl, sym, ap, ◌∙◌, subst, arith, get_or, drop, zero, suc, ◌+◌, append_assoc}
-use Rattle.std.specs.Prelude.{Bool, true, false, if◌then◌else◌, codes, OnOk, option_map}
-use Rattle.std.specs.Str.{bytes_eq}
+use Rattle.std.specs.Prelude.{Bool, true, false, ◌==◌, if◌then◌else◌, OnOk, option_map}
+use Rattle.ql_base.specs.Reserved.{number}
+use Rattle.ql_base.specs.declared.reserved.Reserved.TheVariants.{Plus}
 use Rattle.ql_forms.specs.Form.{integer, atom}
 use Rattle.ql_expand.specs.Core as expanded
 use Rattle.ql_expand.specs.Core.{core, Node, primitive, Cores, no_cores, and_core, Function, program}
 use Rattle.ql_expand.specs.View as view
-use Rattle.ql_expand.specs.declared.program.Core.{Core as Given}
-use Rattle.ql_meaning.specs.Core.{Core, constant, sum, print, with_both, core_of, and_also, cores_of, program_of}
+use Rattle.ql_expand.specs.declared.core_form.Core.{Core as Given}
+use Rattle.ql_top.specs.Runnable.{Core, constant, sum, print, with_both, core_of, and_also, cores_of, program_of}
 use Rattle.ql_top.specs.Code.{instruction, code_of, code_of_program, place_of, AddsCode, AddsForms}
-use Rattle.ql_scope.proofs.Opened.{opened}
+use Rattle.ql_top.proofs.Opened.{opened}
 use Rattle.ql_top.specs.declared.code.Op.TheVariants.{Sum, Print, Drop, End}
 use Rattle.ql_top.specs.declared.code.Instruction.{Instruction}
 
@@ -30,23 +31,23 @@ adds_if : (b : Bool) (a : Option Core) (old new : List Instruction) → (b ≡ t
 adds_if true a old new h = h refl
 adds_if false a old new h = tt
 
-module _ (names : List (List ℕ)) (at : ℕ) (w : List ℕ) where
+module _ (at w : ℕ) where
   -- a primitive that isn't the sum of two operands adds nothing
   pub adds_short : (operands : List Given) (old new : List Instruction) → length operands < 2
-      → AddsCode (core_of (core at (primitive w (view.cores_of names operands)))) old new
+      → AddsCode (core_of (core at (primitive w (view.cores_of operands)))) old new
   adds_short [] old new h = tt
   adds_short (x ∷ []) old new h = tt
   adds_short (x ∷ (y ∷ operands)) old new h = absurd (omega arith)
 
   pub adds_long : (operands : List Given) (old new : List Instruction) → 3 ≤ length operands
-      → AddsCode (core_of (core at (primitive w (view.cores_of names operands)))) old new
+      → AddsCode (core_of (core at (primitive w (view.cores_of operands)))) old new
   adds_long [] old new h = absurd (omega arith)
   adds_long (x ∷ []) old new h = absurd (omega arith)
   adds_long (x ∷ (y ∷ [])) old new h = absurd (omega arith)
   adds_long (x ∷ (y ∷ (z ∷ operands))) old new h = tt
 
   pub adds_other : (operands : List Given) (old new : List Instruction) → 2 ≤ length operands → length operands < 3
-      → bytes_eq w (codes "+") ≡ false → AddsCode (core_of (core at (primitive w (view.cores_of names operands)))) old new
+      → w == number Plus ≡ false → AddsCode (core_of (core at (primitive w (view.cores_of operands)))) old new
   adds_other [] old new h k e = absurd (omega arith)
   adds_other (x ∷ []) old new h k e = absurd (omega arith)
   adds_other (x ∷ (y ∷ (z ∷ operands))) old new h k e = absurd (omega arith)
@@ -54,16 +55,16 @@ module _ (names : List (List ℕ)) (at : ℕ) (w : List ℕ) where
 
   pub adds_sum : (operands : List Given) (first second : Given) (old between new last : List Instruction) → 2 ≤ length operands → length operands < 3
       → first ≡ get_or operands 0 first → second ≡ get_or operands 1 second
-      → AddsCode (core_of (view.core_of names first)) old between → AddsCode (core_of (view.core_of names second)) between new
-      → last ≡ new ++ instruction Sum at ∷ [] → AddsCode (core_of (core at (primitive w (view.cores_of names operands)))) old last
+      → AddsCode (core_of (view.core_of first)) old between → AddsCode (core_of (view.core_of second)) between new
+      → last ≡ new ++ instruction Sum at ∷ [] → AddsCode (core_of (core at (primitive w (view.cores_of operands)))) old last
   adds_sum [] first second old between new last h k f g a b l = absurd (omega arith)
   adds_sum (x ∷ []) first second old between new last h k f g a b l = absurd (omega arith)
   adds_sum (x ∷ (y ∷ (z ∷ operands))) first second old between new last h k f g a b l = absurd (omega arith)
   adds_sum (x ∷ (y ∷ [])) first second old between new last h k f g a b l =
-      adds_if (bytes_eq w (codes "+")) _ old last
+      adds_if (w == number Plus) _ old last
       (λ e. adds_both at _ _ old between new last
-      (subst (λ (c : Given). AddsCode (core_of (view.core_of names c)) old between) f a)
-      (subst (λ (c : Given). AddsCode (core_of (view.core_of names c)) between new) g b) l)
+      (subst (λ (c : Given). AddsCode (core_of (view.core_of c)) old between) f a)
+      (subst (λ (c : Given). AddsCode (core_of (view.core_of c)) between new) g b) l)
 
 pub on_ok : {T E A B : Type 0} (r : Result T E) → (A → B) → OnOk r A → OnOk r B
 on_ok (Ok x) f h = f h
@@ -92,7 +93,7 @@ print_place at (Some x) c e = let k : print at x ≡ c = cc in ap place_of (sym 
 -- what can be run stands where its form does
 place_same : (at : ℕ) (n : Node) (c : Core) → core_of (core at n) ≡ Some c → place_of c ≡ at
 place_same at (expanded.constant (atom o (integer z))) c e = let k : constant at z ≡ c = cc in ap place_of (sym k)
-place_same at (primitive w (and_core a (and_core b no_cores))) c e = sum_place at (bytes_eq w (codes "+")) (core_of a) (core_of b) c e
+place_same at (primitive w (and_core a (and_core b no_cores))) c e = sum_place at (w == number Plus) (core_of a) (core_of b) c e
 place_same at (expanded.print a) c e = print_place at (core_of a) c e
 place_same at _ c e = cc
 
@@ -119,14 +120,14 @@ drop_at (x ∷ forms) (suc i) f h e =
     rw n (drop_at forms i f within e)
 
 -- the next form's code and its drop are added
-pub carries_next : (names : List (List ℕ)) (whole : Option (List Core)) (old : List Instruction) (forms : List Given) (i : ℕ) (f : Given) (now between next : List Instruction)
+pub carries_next : (whole : Option (List Core)) (old : List Instruction) (forms : List Given) (i : ℕ) (f : Given) (now between next : List Instruction)
     → i < length forms → f ≡ get_or forms i f
-    → Carries whole (cores_of (view.cores_of names (drop i forms))) old now → AddsCode (core_of (view.core_of names f)) now between
-    → next ≡ between ++ instruction Drop f.at.0 ∷ [] → Carries whole (cores_of (view.cores_of names (drop (i + 1) forms))) old next
-carries_next names whole old forms i f now between next h e k a l =
-    adds_form whole (core_of (view.core_of names f)) (cores_of (view.cores_of names (drop (i + 1) forms))) f.at.0 old now between next
-    (λ c r. place_same f.at.0 (view.node_of names f.node) c (sym (ap core_of (opened names f)) ∙ r))
-    (subst (λ (fs : List Given). Carries whole (cores_of (view.cores_of names fs)) old now) (drop_at forms i f h e) k) a l
+    → Carries whole (cores_of (view.cores_of (drop i forms))) old now → AddsCode (core_of (view.core_of f)) now between
+    → next ≡ between ++ instruction Drop f.at.0 ∷ [] → Carries whole (cores_of (view.cores_of (drop (i + 1) forms))) old next
+carries_next whole old forms i f now between next h e k a l =
+    adds_form whole (core_of (view.core_of f)) (cores_of (view.cores_of (drop (i + 1) forms))) f.at.0 old now between next
+    (λ c r. place_same f.at.0 (view.node_of f.node) c (sym (ap core_of (opened f)) ∙ r))
+    (subst (λ (fs : List Given). Carries whole (cores_of (view.cores_of fs)) old now) (drop_at forms i f h e) k) a l
 
 pub none_left : (whole : Option (List Core)) (old now : List Instruction) → Carries whole (Some []) old now → AddsForms whole old now
 none_left None old now h = tt
@@ -140,7 +141,7 @@ program_code (Some whole) meant old now code a o e w =
     let same : whole ≡ meant = cc in
     e ∙ (a ∙ (rw (o, same) refl))
 
-pub forms_can_run : (fs : List Function) (globals : List (List ℕ)) (cs : Cores) (meant : List Core) → program_of (program fs globals cs) ≡ Some meant → cores_of cs ≡ Some meant
+pub forms_can_run : (fs : List Function) (globals : List ℕ) (cs : Cores) (meant : List Core) → program_of (program fs globals cs) ≡ Some meant → cores_of cs ≡ Some meant
 forms_can_run [] globals cs meant e = e
 forms_can_run (f ∷ fs) globals cs meant e = absurd (cc)
 

@@ -3,15 +3,17 @@ use Rattle.std.proofs.Common.{◌≡◌, ℕ, [], ◌∷◌, Some, None, refl}
 use Rattle.std.specs.Prelude.{pos, codes, replicate}
 use Rattle.std.specs.Fmt.{digits}
 use Rattle.ql_base.specs.Limits.{usual}
+use Rattle.ql_base.specs.Reserved.{number}
 use Rattle.ql_base.specs.declared.fault.RunFault.TheVariants.{Overflow}
+use Rattle.ql_base.specs.declared.reserved.Reserved.TheVariants.{Plus}
 use Rattle.ql_forms.specs.Form.{integer, nil, atom}
 use Rattle.ql_expand.specs.Core as expanded
 use Rattle.ql_expand.specs.Core.{core, no_cores, and_core, primitive, conditional, function, program}
-use Rattle.ql_meaning.specs.Core.{Core, constant, sum, print}
-use Rattle.ql_meaning.specs.Meaning.{program_told}
-use Rattle.ql_meaning.specs.World.{pid}
-use Rattle.ql_meaning.specs.declared.world.Event.TheVariants.{Turn, Exit, EndOk, Stopped}
-use Rattle.ql_meaning.specs.declared.world.Stop.TheVariants.{Done, Fault, Deadlock}
+use Rattle.ql_top.specs.Runnable.{Core, constant, sum, print}
+use Rattle.ql_top.specs.Meaning.{program_told}
+use Rattle.ql_top.specs.World.{pid}
+use Rattle.ql_top.specs.declared.world.Event.TheVariants.{Turn, Exit, EndOk, Stopped}
+use Rattle.ql_top.specs.declared.world.Stop.TheVariants.{Done, Fault, Deadlock}
 use Rattle.ql_top.specs.Code.{instruction, code_of_program}
 use Rattle.ql_top.specs.Machine.{code_told}
 use Rattle.ql_top.specs.Unbuilt.{unbuilt_places, first_unbuilt}
@@ -73,7 +75,7 @@ abbrev nil_at : ℕ → expanded.Core
 nil_at at = core at (expanded.constant (atom at nil))
 
 -- (print (+ 1 2))
-all_can_run : first_unbuilt (program [] [] (and_core (core 0 (expanded.print (core 7 (primitive (codes "+") (and_core (integer_at 10 1)
+all_can_run : first_unbuilt (program [] [] (and_core (core 0 (expanded.print (core 7 (primitive (number Plus) (and_core (integer_at 10 1)
     (and_core (integer_at 12 2) no_cores)))))) no_cores)) ≡ None
 all_can_run = refl
 
@@ -83,5 +85,5 @@ inner_forms_count : unbuilt_places (program [] [] (and_core (core 0 (expanded.pr
 inner_forms_count = refl
 
 -- (print nil)(defun f () nil)
-the_least_is_first : first_unbuilt (program (function 11 (codes "f") 18 [] (nil_at 23) ∷ []) [] (and_core (core 0 (expanded.print (nil_at 7))) no_cores)) ≡ Some 7
+the_least_is_first : first_unbuilt (program (function 11 46 18 [] (nil_at 23) ∷ []) [] (and_core (core 0 (expanded.print (nil_at 7))) no_cores)) ≡ Some 7
 the_least_is_first = refl

@@ -4,10 +4,10 @@ use Rattle.std.specs.Prelude.{Bool, true, false, ℤ, ◌+ℤ◌, slice_get}
 use Rattle.std.proofs.Math.Seq.{get_or-append_seam}
 use Rattle.std.proofs.lemmas.Option.{slice_get-get_or}
 use Rattle.ql_base.specs.declared.limits.Limits.{Limits}
-use Rattle.ql_meaning.specs.Core.{Core, constant, sum, print}
-use Rattle.ql_meaning.specs.Control.{Frame, then_add, add_to, printing, then_forms, Control, literal, given, finished, over, Thread, descend, begin, give, want_of as control_wants, go_on as control_goes, is_over, core_machine}
-use Rattle.ql_meaning.specs.Meaning.{program_told}
-use Rattle.ql_meaning.specs.Tick.{rests}
+use Rattle.ql_top.specs.Runnable.{Core, constant, sum, print}
+use Rattle.ql_top.specs.Control.{Frame, then_add, add_to, printing, then_forms, Control, literal, given, finished, over, Thread, descend, begin, give, want_of as control_wants, go_on as control_goes, is_over, core_machine}
+use Rattle.ql_top.specs.Meaning.{program_told}
+use Rattle.ql_top.specs.Tick.{rests}
 use Rattle.ql_top.specs.Code.{instruction, place_of, code_of, code_of_program}
 use Rattle.ql_top.specs.Machine.{Point, point, past, past_drops, settled, want_of, go_on, code_machine, code_told}
 use Rattle.ql_top.specs.declared.code.Op.{Op}

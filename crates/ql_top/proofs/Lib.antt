@@ -1,12 +1,15 @@
-mod Accepting
 mod Answering
-pub mod Bisimulation
-pub mod Built
-pub mod Compiles
 mod Examples
-pub mod Follows
 mod Opened
 mod Parts
 mod Pieces
-pub mod Runs
+mod Schedules
+mod StepExamples
 mod Stopping
+mod Telling
+pub mod Bisimulation
+pub mod Built
+pub mod Compiles
+pub mod Follows
+pub mod Refusals
+pub mod Runs

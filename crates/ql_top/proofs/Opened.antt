@@ -1,24 +1,68 @@
 -- What a core is made of.
-use Rattle.std.proofs.Common.{◌≡◌, ℕ, List}
-use Rattle.ql_forms.specs.View.{form_of}
-use Rattle.ql_forms.specs.declared.form.Form.{Form}
-use Rattle.ql_expand.specs.View.{core_of, node_of, cores_of, letters, node_step, bound_step, core_step}
+use Rattle.std.proofs.Common.{◌≡◌, ℕ, Bool, List}
+use Rattle.ql_expand.specs.View.{core_of, node_of, cores_of, bounds_of, bound_of, binder_of, binders_of, constant_of, node_step, bound_step, core_step}
 use Rattle.ql_expand.specs.Core as spec
-use Rattle.ql_expand.specs.Core.{constant, primitive, print}
-use Rattle.ql_expand.specs.declared.program.Core.{Core}
-use Rattle.ql_expand.specs.declared.program.Node.{fold-roll-Node}
-use Rattle.ql_expand.specs.declared.program.Node.TheOpen.{Node-F}
-use Rattle.ql_expand.specs.declared.program.Node.TheViews as view
-use Rattle.ql_expand.specs.declared.program.Node.TheVariants as variants
+use Rattle.ql_expand.specs.Core.{core, constant, primitive, print, conditional, binding, funcall, qlet, qlambda, catch, qcatch, throw, protect}
+use Rattle.ql_expand.specs.declared.core_form.Constant.{Constant}
+use Rattle.ql_expand.specs.declared.core_form.Binder.{Binder}
+use Rattle.ql_expand.specs.declared.core_form.Core.{Core}
+use Rattle.ql_expand.specs.declared.core_form.Bound.{Bound}
+use Rattle.ql_expand.specs.declared.core_form.Node.{fold-roll-Node}
+use Rattle.ql_expand.specs.declared.core_form.Node.TheFolds.{fold-roll-Core, fold-roll-Bound}
+use Rattle.ql_expand.specs.declared.core_form.Node.TheOpen.{Node-F}
+use Rattle.ql_expand.specs.declared.core_form.Node.TheViews as view
+use Rattle.ql_expand.specs.declared.core_form.Node.TheVariants as variants
 
-pub primitive_is : (names : List (List ℕ)) (n : ℕ) (cs : List Core) → node_of names (view.Prim n cs) ≡ primitive (letters names n) (cores_of names cs)
-unfolding Rattle.ql_expand.specs.declared.program.Node.TheViews.roll-Node denote.Hole.Carrier.roll
-primitive_is names n cs = fold-roll-Node spec.Node (spec.Binder × spec.Core) spec.Core (node_step names) (bound_step names) (core_step names) (Node-F.Prim n cs)
+pub opened : (c : Core) → core_of c ≡ core c.at.0 (node_of c.node)
+opened c = fold-roll-Core spec.Node (spec.Binder × spec.Core) spec.Core node_step bound_step core_step (record { at = c.at; node = c.node })
 
-pub print_is : (names : List (List ℕ)) (c : Core) → node_of names (view.Print c) ≡ print (core_of names c)
-unfolding Rattle.ql_expand.specs.declared.program.Node.TheViews.roll-Node denote.Hole.Carrier.roll
-print_is names c = fold-roll-Node spec.Node (spec.Binder × spec.Core) spec.Core (node_step names) (bound_step names) (core_step names) (Node-F.Print c)
+pub bound_opened : (b : Bound) → bound_of b ≡ (binder_of b.binder, core_of b.value)
+bound_opened b = fold-roll-Bound spec.Node (spec.Binder × spec.Core) spec.Core node_step bound_step core_step (record { binder = b.binder; value = b.value })
 
-pub constant_is : (names : List (List ℕ)) (f : Form) → node_of names (variants.Const f) ≡ constant (form_of names f)
-unfolding Rattle.ql_expand.specs.declared.program.Node.TheViews.roll-Node denote.Hole.Carrier.roll
-constant_is names f = fold-roll-Node spec.Node (spec.Binder × spec.Core) spec.Core (node_step names) (bound_step names) (core_step names) (Node-F.Const f)
+pub constant_is : (f : Constant) → node_of (variants.Const f) ≡ constant (constant_of f)
+unfolding Rattle.ql_expand.specs.declared.core_form.Node.TheViews.roll-Node denote.Hole.Carrier.roll
+constant_is f = fold-roll-Node spec.Node (spec.Binder × spec.Core) spec.Core node_step bound_step core_step (Node-F.Const f)
+
+pub primitive_is : (n : ℕ) (cs : List Core) → node_of (view.Prim n cs) ≡ primitive n (cores_of cs)
+unfolding Rattle.ql_expand.specs.declared.core_form.Node.TheViews.roll-Node denote.Hole.Carrier.roll
+primitive_is n cs = fold-roll-Node spec.Node (spec.Binder × spec.Core) spec.Core node_step bound_step core_step (Node-F.Prim n cs)
+
+pub print_is : (c : Core) → node_of (view.Print c) ≡ print (core_of c)
+unfolding Rattle.ql_expand.specs.declared.core_form.Node.TheViews.roll-Node denote.Hole.Carrier.roll
+print_is c = fold-roll-Node spec.Node (spec.Binder × spec.Core) spec.Core node_step bound_step core_step (Node-F.Print c)
+
+pub if_is : (a b c : Core) → node_of (view.If a b c) ≡ conditional (core_of a) (core_of b) (core_of c)
+unfolding Rattle.ql_expand.specs.declared.core_form.Node.TheViews.roll-Node denote.Hole.Carrier.roll
+if_is a b c = fold-roll-Node spec.Node (spec.Binder × spec.Core) spec.Core node_step bound_step core_step (Node-F.If a b c)
+
+pub let_is : (bs : List Bound) (c : Core) → node_of (view.Let bs c) ≡ binding (bounds_of bs) (core_of c)
+unfolding Rattle.ql_expand.specs.declared.core_form.Node.TheViews.roll-Node denote.Hole.Carrier.roll
+let_is bs c = fold-roll-Node spec.Node (spec.Binder × spec.Core) spec.Core node_step bound_step core_step (Node-F.Let bs c)
+
+pub funcall_is : (i : Bool) (c : Core) (cs : List Core) → node_of (view.Funcall i c cs) ≡ funcall i (core_of c) (cores_of cs)
+unfolding Rattle.ql_expand.specs.declared.core_form.Node.TheViews.roll-Node denote.Hole.Carrier.roll
+funcall_is i c cs = fold-roll-Node spec.Node (spec.Binder × spec.Core) spec.Core node_step bound_step core_step (Node-F.Funcall i c cs)
+
+pub qlet_is : (p : Core) (bs : List Bound) (c : Core) → node_of (view.Qlet p bs c) ≡ qlet (core_of p) (bounds_of bs) (core_of c)
+unfolding Rattle.ql_expand.specs.declared.core_form.Node.TheViews.roll-Node denote.Hole.Carrier.roll
+qlet_is p bs c = fold-roll-Node spec.Node (spec.Binder × spec.Core) spec.Core node_step bound_step core_step (Node-F.Qlet p bs c)
+
+pub qlambda_is : (p : Core) (ps : List Binder) (c : Core) → node_of (view.Qlambda p ps c) ≡ qlambda (core_of p) (binders_of ps) (core_of c)
+unfolding Rattle.ql_expand.specs.declared.core_form.Node.TheViews.roll-Node denote.Hole.Carrier.roll
+qlambda_is p ps c = fold-roll-Node spec.Node (spec.Binder × spec.Core) spec.Core node_step bound_step core_step (Node-F.Qlambda p ps c)
+
+pub catch_is : (a b : Core) → node_of (view.Catch a b) ≡ catch (core_of a) (core_of b)
+unfolding Rattle.ql_expand.specs.declared.core_form.Node.TheViews.roll-Node denote.Hole.Carrier.roll
+catch_is a b = fold-roll-Node spec.Node (spec.Binder × spec.Core) spec.Core node_step bound_step core_step (Node-F.Catch a b)
+
+pub qcatch_is : (a b : Core) → node_of (view.Qcatch a b) ≡ qcatch (core_of a) (core_of b)
+unfolding Rattle.ql_expand.specs.declared.core_form.Node.TheViews.roll-Node denote.Hole.Carrier.roll
+qcatch_is a b = fold-roll-Node spec.Node (spec.Binder × spec.Core) spec.Core node_step bound_step core_step (Node-F.Qcatch a b)
+
+pub throw_is : (a b : Core) → node_of (view.Throw a b) ≡ throw (core_of a) (core_of b)
+unfolding Rattle.ql_expand.specs.declared.core_form.Node.TheViews.roll-Node denote.Hole.Carrier.roll
+throw_is a b = fold-roll-Node spec.Node (spec.Binder × spec.Core) spec.Core node_step bound_step core_step (Node-F.Throw a b)
+
+pub protect_is : (a b : Core) → node_of (view.Protect a b) ≡ protect (core_of a) (core_of b)
+unfolding Rattle.ql_expand.specs.declared.core_form.Node.TheViews.roll-Node denote.Hole.Carrier.roll
+protect_is a b = fold-roll-Node spec.Node (spec.Binder × spec.Core) spec.Core node_step bound_step core_step (Node-F.Protect a b)

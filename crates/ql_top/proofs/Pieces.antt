@@ -4,43 +4,52 @@ use Rattle.ql_base.specs.Outside.{Reads, Appends, AppendsFront}
 use Rattle.ql_read.specs.TextFault.{Kind, bad_byte, stray_close, bad_dot, bad_number, long_name, too_deep, number_of, TextFault, by_byte, by_length, by_end, IsRefused, NoFaultIn, unfinished}
 use Rattle.ql_read.specs.Told.{HasTaken}
 use Rattle.ql_read.specs.declared.reader.Reader.{Reader}
-use Rattle.ql_top.specs.Reading.{HasRead, IsFaulty, EndsFeeding, EndsReading}
-use Rattle.ql_top.specs.declared.reading.ReadStop.{ReadStop}
-use Rattle.ql_top.specs.declared.reading.ReadStop.TheVariants.{Refused, Memory, Fault}
-use Rattle.std.specs.Prelude.{Err, take, drop}
+use Rattle.ql_top.specs.Reading.{Takes, IsAtEnd, HasRead, IsFaulty}
+use Rattle.std.specs.Prelude.{take, drop}
 use Rattle.std.proofs.Math.Seq.{take-add}
 use Rattle.std.proofs.lemmas.List.{take-append-drop}
 
--- what a source that tells its bytes has left after a piece
-after_piece : (room : ℕ) (piece rest : List ℕ) (left next : Option (List ℕ)) → left ≡ Some rest → Reads room piece left next → (more : List ℕ) × (next ≡ Some more) × (rest ≡ piece ++ more)
-after_piece room piece rest None next e r = absurd cc
-after_piece room piece rest (Some x) None e r = absurd r
-after_piece room piece rest (Some x) (Some y) e r = let same : x ≡ rest = cc in (y, refl, sym same ∙ r.0)
+pub takes_nothing : (left : Option (List ℕ)) → Takes [] left left
+takes_nothing None = tt
+takes_nothing (Some x) = refl
 
-pub refused_piece : (reader : Reader) (b piece : List ℕ) (left next : Option (List ℕ)) (room kind at : ℕ) → HasRead reader b left → Reads room piece left next
+-- one more piece is taken
+pub takes_more : (room : ℕ) (taken piece : List ℕ) (start left next : Option (List ℕ)) → Takes taken start left → Reads room piece left next
+    → Takes (taken ++ piece) start next
+takes_more room taken piece None None None t r = tt
+takes_more room taken piece None None (Some z) t r = absurd r
+takes_more room taken piece None (Some y) next t r = absurd t
+takes_more room taken piece (Some x) None next t r = absurd t
+takes_more room taken piece (Some x) (Some y) None t r = absurd r
+takes_more room taken piece (Some x) (Some y) (Some z) t r = t ∙ ap (λ k. taken ++ k) r.0 ∙ sym (append_assoc taken piece z)
+
+-- no piece comes only at the end
+pub takes_last : (room : ℕ) (taken : List ℕ) (start left next : Option (List ℕ)) → 0 < room → Takes taken start left → Reads room [] left next
+    → Takes taken start next × IsAtEnd next
+takes_last room taken start left next some t r =
+    (subst (λ k. Takes k start next) (append-nil taken) (takes_more room taken [] start left next t r), ended left next r)
+  where
+    ended : (left next : Option (List ℕ)) → Reads room [] left next → IsAtEnd next
+    ended None None r = tt
+    ended None (Some z) r = absurd r
+    ended (Some y) None r = absurd r
+    ended (Some y) (Some z) r = r.1 refl some
+
+-- a piece has a fault
+pub refused_piece : (reader : Reader) (piece : List ℕ) (start left next : Option (List ℕ)) (room kind at : ℕ) → HasRead reader start left → Reads room piece left next
     → ((t : List ℕ) → HasTaken reader t → IsRefused (t ++ piece) kind at) → ((t : List ℕ) → HasTaken reader t → (length t ≤ at) × (kind < unfinished)) → length piece ≤ 4096
-    → IsFaulty b next kind at
-refused_piece reader b piece left next room kind at h r bad near few =
-    let n = after_piece room piece h.rest left next h.is_left r in
-    let said = bad h.taken h.has_taken in
-    let whole : b ≡ h.taken ++ piece ++ n.0 = h.parts ∙ ap (λ k. h.taken ++ k) n.2 ∙ sym (append_assoc h.taken piece n.0) in
+    → IsFaulty kind at start next
+refused_piece reader piece start left next room kind at h r bad near few =
     let len : length (h.taken ++ piece) ≡ length h.taken + length piece = length-append h.taken piece in
     let before : length h.taken ≤ at = (near h.taken h.has_taken).0 in
     let low : kind < 8 = (near h.taken h.has_taken).1 in
-    let any : kind ≡ unfinished → n.0 ≡ [] = λ (e : kind ≡ 8). absurd (omega (arith, low, e)) in
     record {
       taken = h.taken ++ piece;
-      rest = n.0;
-      parts = whole;
-      is_left = n.1;
-      fault = subst (λ t. TextFault t kind at) (sym whole) (said.fault n.0 any);
-      only = λ k m f. said.only n.0 any k m (subst (λ t. TextFault t k m) whole f);
+      takes = takes_more room h.taken piece start left next h.takes r;
+      refused = bad h.taken h.has_taken;
       near = omega (arith, len, before, few);
+      at_end = λ e. absurd (omega (arith, low, e));
     }
-
--- nothing was read yet
-pub nothing_read : (reader : Reader) (b : List ℕ) (left : Option (List ℕ)) → HasTaken reader [] → NoFaultIn [] → left ≡ Some b → HasRead reader b left
-nothing_read reader b left h n e = record { taken = []; rest = b; parts = refl; is_left = e; has_taken = h; no_fault = n }
 
 none_is_last : (k : Kind) → number_of k ≡ 8 → Prim.⊥
 none_is_last bad_byte e = cc
@@ -56,25 +65,17 @@ ended_late b kind at e (by_byte {kind = k} low f) = absurd (none_is_last k e)
 ended_late b kind at e (by_length h long) = absurd (cc)
 ended_late b kind at e (by_end h short none) = omega arith
 
-pub unfinished_text : (reader : Reader) (b : List ℕ) (left : Option (List ℕ)) (kind at : ℕ) → (kind ≡ 8) × IsRefused b kind at → left ≡ Some [] → IsFaulty b left kind at
-unfinished_text reader b left kind at (last, said) e =
-    let whole : b ++ [] ≡ b = append-nil b in
-    let fault : TextFault b kind at = subst (λ t. TextFault t kind at) whole (said.fault [] (λ k. refl)) in
+pub unfinished_text : (reader : Reader) (start next : Option (List ℕ)) (kind at : ℕ) (h : HasRead reader start next) → IsAtEnd next
+    → (kind ≡ 8) × IsRefused h.taken kind at → IsFaulty kind at start next
+unfinished_text reader start next kind at h end (last, said) =
+    let fault : TextFault h.taken kind at = subst (λ t. TextFault t kind at) (append-nil h.taken) (said.fault [] (λ k. refl)) in
     record {
-      taken = b;
-      rest = [];
-      parts = sym whole;
-      is_left = e;
-      fault = fault;
-      only = λ k m f. said.only [] (λ j. refl) k m (subst (λ t. TextFault t k m) (sym whole) f);
-      near = let p : length b ≤ at = ended_late b kind at last fault in omega (arith, p);
+      taken = h.taken;
+      takes = h.takes;
+      refused = said;
+      near = let p : length h.taken ≤ at = ended_late h.taken kind at last fault in omega (arith, p);
+      at_end = λ e. end;
     }
-
--- a stop in feeding is one of the whole reading
-pub same_stop : (stop : ReadStop) (reader : Reader) (b : List ℕ) (left : Option (List ℕ)) → EndsFeeding (Err stop) reader b left → EndsReading (Err stop) b left
-same_stop (Refused kind at) reader b left h = h
-same_stop Memory reader b left h = h
-same_stop Fault reader b left h = h
 
 -- nothing was written yet
 pub appends_nothing : (held : Option (List ℕ)) → Appends [] held held

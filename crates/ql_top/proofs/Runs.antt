@@ -9,15 +9,15 @@ use Rattle.std.proofs.lemmas.Option.{slice_get_past}
 use Rattle.ql_base.specs.declared.fault.RunFault.TheVariants.{Overflow}
 use Rattle.ql_base.specs.declared.limits.Limits.{Limits}
 use Rattle.ql_base.specs.declared.limits.LimitKind.TheVariants.{Output}
-use Rattle.ql_meaning.specs.declared.world.Event.{Event}
-use Rattle.ql_meaning.specs.declared.world.Event.TheVariants.{Exit, EndOk, Stopped}
-use Rattle.ql_meaning.specs.declared.world.Stop.{Stop}
-use Rattle.ql_meaning.specs.declared.world.Stop.TheVariants.{Done, Fault, Limit, Deadlock, Budget}
-use Rattle.ql_meaning.specs.Control.{fits}
-use Rattle.ql_meaning.specs.Meaning.{opening}
-use Rattle.ql_meaning.specs.World.{World, pid, with_tick, turns}
-use Rattle.ql_meaning.specs.Tick.{works, errs, rests, Machine, can_step, tick}
-use Rattle.ql_meaning.specs.Run.{stop_of, run, story_of, told}
+use Rattle.ql_top.specs.declared.world.Event.{Event}
+use Rattle.ql_top.specs.declared.world.Event.TheVariants.{Exit, EndOk, Stopped}
+use Rattle.ql_top.specs.declared.world.Stop.{Stop}
+use Rattle.ql_top.specs.declared.world.Stop.TheVariants.{Done, Fault, Limit, Deadlock, Budget}
+use Rattle.ql_top.specs.Control.{fits}
+use Rattle.ql_top.specs.Meaning.{opening}
+use Rattle.ql_top.specs.World.{World, pid, with_tick, turns}
+use Rattle.ql_top.specs.Tick.{works, errs, rests, Machine, can_step, tick}
+use Rattle.ql_top.specs.Run.{stop_of, run, story_of, told}
 use Rattle.ql_top.specs.Code.{instruction}
 use Rattle.ql_top.specs.Machine.{Point, point, past_drops, settled, want_of, code_machine, code_told}
 use Rattle.ql_top.specs.Progress.{turn_of, last_events, journal_of, world_at, HasCome, HasStopped}

@@ -1,6 +1,6 @@
 -- The code of a program.
 use Rattle.std.specs.Prelude.{◌≡◌, ℕ, List, [], ◌∷◌, ◌++◌, Option, Some, None}
-use Rattle.ql_meaning.specs.Core.{Core, constant, sum, print}
+use Rattle.ql_top.specs.Runnable.{Core, constant, sum, print}
 use Rattle.ql_top.specs.declared.code.Op.{Op}
 use Rattle.ql_top.specs.declared.code.Op.TheVariants.{Lit, Sum, Print, Drop, End}
 use Rattle.ql_top.specs.declared.code.Instruction.{Instruction}

@@ -1,10 +1,10 @@
 -- The text of a journal: a line for each event.
 use Rattle.std.specs.Prelude.{ℕ, List, [], ◌∷◌, ◌++◌, codes}
 use Rattle.std.specs.Fmt.{decimal}
-use Rattle.ql_meaning.specs.declared.world.Event.{Event}
-use Rattle.ql_meaning.specs.declared.world.Event.TheVariants.{Turn, Exit, EndOk, Stopped}
-use Rattle.ql_meaning.specs.declared.world.Stop.{Stop}
-use Rattle.ql_meaning.specs.declared.world.Stop.TheVariants.{Done, Fault, Limit, Deadlock, Budget}
+use Rattle.ql_top.specs.declared.world.Event.{Event}
+use Rattle.ql_top.specs.declared.world.Event.TheVariants.{Turn, Exit, EndOk, Stopped}
+use Rattle.ql_top.specs.declared.world.Stop.{Stop}
+use Rattle.ql_top.specs.declared.world.Stop.TheVariants.{Done, Fault, Limit, Deadlock, Budget}
 use Rattle.ql_top.specs.Texts.{fault_name, limit_name}
 
 abbrev pub stop_text : Stop → List ℕ

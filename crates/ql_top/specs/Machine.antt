@@ -2,10 +2,10 @@
 use Rattle.std.specs.Prelude.{ℕ, ◌+◌, Bool, true, false, if◌then◌else◌, ℤ, ◌+ℤ◌, List, [], ◌∷◌, Option, Some, None, drop, slice_get}
 use Rattle.ql_base.specs.declared.fault.RunFault.TheVariants.{Overflow}
 use Rattle.ql_base.specs.declared.limits.Limits.{Limits}
-use Rattle.ql_meaning.specs.Control.{fits}
-use Rattle.ql_meaning.specs.Meaning.{opening}
-use Rattle.ql_meaning.specs.Run.{Story, told}
-use Rattle.ql_meaning.specs.Tick.{Want, works, errs, prints, ends, rests, Machine}
+use Rattle.ql_top.specs.Control.{fits}
+use Rattle.ql_top.specs.Meaning.{opening}
+use Rattle.ql_top.specs.Run.{Story, told}
+use Rattle.ql_top.specs.Tick.{Want, works, errs, prints, ends, rests, Machine}
 use Rattle.ql_top.specs.declared.code.Op.{Op}
 use Rattle.ql_top.specs.declared.code.Op.TheVariants.{Lit, Sum, Print, Drop, End}
 use Rattle.ql_top.specs.declared.code.Instruction.{Instruction}

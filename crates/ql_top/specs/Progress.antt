@@ -1,13 +1,13 @@
 -- How far the run of a code with one process has come, and what is told of it where it stops.
 use Rattle.std.specs.Prelude.{◌≡◌, ◌≤◌, ℕ, zero, suc, ◌+◌, ℤ, List, [], ◌∷◌, ◌++◌, replicate, Some, None}
 use Rattle.ql_base.specs.declared.limits.Limits.{Limits}
-use Rattle.ql_meaning.specs.Meaning.{opening}
-use Rattle.ql_meaning.specs.Run.{run}
-use Rattle.ql_meaning.specs.World.{World, pid}
-use Rattle.ql_meaning.specs.declared.world.Event.{Event}
-use Rattle.ql_meaning.specs.declared.world.Event.TheVariants.{Turn, Exit, EndOk, Stopped}
-use Rattle.ql_meaning.specs.declared.world.Stop.{Stop}
-use Rattle.ql_meaning.specs.declared.world.Stop.TheVariants.{Done}
+use Rattle.ql_top.specs.Meaning.{opening}
+use Rattle.ql_top.specs.Run.{run}
+use Rattle.ql_top.specs.World.{World, pid}
+use Rattle.ql_top.specs.declared.world.Event.{Event}
+use Rattle.ql_top.specs.declared.world.Event.TheVariants.{Turn, Exit, EndOk, Stopped}
+use Rattle.ql_top.specs.declared.world.Stop.{Stop}
+use Rattle.ql_top.specs.declared.world.Stop.TheVariants.{Done}
 use Rattle.ql_top.specs.declared.code.Instruction.{Instruction}
 use Rattle.ql_top.specs.declared.machine.Step.{Step}
 use Rattle.ql_top.specs.declared.machine.Step.TheVariants.{Goes, Stops}

@@ -1,79 +1,92 @@
--- How the reading of a source that tells its bytes ends.
-use Rattle.std.specs.Prelude.{◌≡◌, ◌≤◌, ◌<◌, ◌+◌, ◌++◌, ℕ, List, [], length, Option, Some, Result, Ok, Err}
+-- How the reading of a source ends. What is said of its bytes holds of every source: of one that doesn't tell them too.
+use Rattle.std.specs.Prelude.{◌≡◌, ◌≤◌, ◌<◌, ◌+◌, ◌++◌, ℕ, List, [], length, Option, Some, None, Result, Ok, Err}
 use Rattle.ql_base.specs.Outside.{HasRisen}
 use Rattle.ql_forms.specs.View.{forms_of}
-use Rattle.ql_forms.specs.declared.form.Text.{Text}
-use Rattle.ql_read.specs.TextFault.{TextFault, IsRead, NoFaultIn}
+use Rattle.ql_forms.specs.declared.text.Text.{Text}
+use Rattle.ql_read.specs.TextFault as read
+use Rattle.ql_read.specs.TextFault.{IsRead, NoFaultIn, unfinished}
 use Rattle.ql_read.specs.Told.{HasTaken}
 use Rattle.ql_read.specs.declared.reader.Reader.{Reader}
-use Rattle.ql_top.specs.declared.reading.ReadStop.{ReadStop}
-use Rattle.ql_top.specs.declared.reading.ReadStop.TheVariants as stops
 use Rattle.ql_top.specs.declared.reading.Piece.{Piece}
-use Rattle.ql_top.specs.declared.reading.Piece.TheVariants.{More, End, Refused, Memory, Fault}
+use Rattle.ql_top.specs.declared.reading.Piece.TheVariants.{More, End, Stops}
+use Rattle.ql_top.specs.declared.status.Status.{Status}
+use Rattle.ql_top.specs.declared.status.Status.TheVariants.{Refused, NoMemory, ReadFault}
 
--- of these bytes some were taken, none of which is at fault, and the others are left
-pub record HasRead (reader : Reader) (bytes : List ℕ) (left : Option (List ℕ)) : Type 0 where
+-- These bytes were next in the source, and the others are left, where it tells them.
+abbrev pub Takes : List ℕ → Option (List ℕ) → Option (List ℕ) → Type 0
+Takes bytes None None = Prim.Unit {0}
+Takes bytes (Some old) (Some new) = old ≡ bytes ++ new
+Takes bytes None (Some new) = Prim.⊥
+Takes bytes (Some old) None = Prim.⊥
+
+-- no bytes are left, where the source tells them
+abbrev pub IsAtEnd : Option (List ℕ) → Type 0
+IsAtEnd None = Prim.Unit {0}
+IsAtEnd (Some rest) = rest ≡ []
+
+-- some bytes were taken, none of which is at fault
+pub record HasRead (reader : Reader) (old new : Option (List ℕ)) : Type 0 where
   pub taken : List ℕ
-  pub rest : List ℕ
-  pub parts : bytes ≡ taken ++ rest
-  pub is_left : left ≡ Some rest
+  pub takes : Takes taken old new
   pub has_taken : HasTaken reader taken
   pub no_fault : NoFaultIn taken
 
--- These bytes have this one fault. For a fault at a byte, at most 4,096 bytes beyond its offset were taken.
-pub record IsFaulty (bytes : List ℕ) (left : Option (List ℕ)) (kind at : ℕ) : Type 0 where
+-- all bytes were taken, and they spell this text
+pub record ReadsAll (text : Text) (old new : Option (List ℕ)) : Type 0 where
   pub taken : List ℕ
-  pub rest : List ℕ
-  pub parts : bytes ≡ taken ++ rest
-  pub is_left : left ≡ Some rest
-  pub fault : TextFault bytes kind at
-  pub only : (k n : ℕ) → TextFault bytes k n → (k ≡ kind) × (n ≡ at)
+  pub takes : Takes taken old new
+  pub is_read : IsRead taken (forms_of text.forms) text.names
+  pub at_end : IsAtEnd new
+
+-- The bytes that were taken have this one fault, however they go on; at most 4,096 of them are beyond its offset. They
+-- may end too early only at the end.
+pub record IsFaulty (kind at : ℕ) (old new : Option (List ℕ)) : Type 0 where
+  pub taken : List ℕ
+  pub takes : Takes taken old new
+  pub refused : read.IsRefused taken kind at
   pub near : length taken ≤ at + 4096
+  pub at_end : kind ≡ unfinished → IsAtEnd new
 
 -- no byte that was taken is at fault
-pub record IsCutShort (bytes : List ℕ) (left : Option (List ℕ)) : Type 0 where
+pub record IsCutShort (old new : Option (List ℕ)) : Type 0 where
   pub taken : List ℕ
-  pub rest : List ℕ
-  pub parts : bytes ≡ taken ++ rest
-  pub is_left : left ≡ Some rest
+  pub takes : Takes taken old new
   pub no_fault : NoFaultIn taken
 
--- all bytes were taken
-pub record IsAtEnd (reader : Reader) (bytes : List ℕ) (left : Option (List ℕ)) : Type 0 where
-  pub has_taken : HasTaken reader bytes
-  pub no_fault : NoFaultIn bytes
-  pub none_left : left ≡ Some []
+-- reading ends with this status: a refusal, or a failure before any refusal
+abbrev pub StopsReading : Status → (old new : Option (List ℕ)) → Type 0
+StopsReading (Refused kind at) old new = IsFaulty kind at old new
+StopsReading NoMemory old new = (taken : List ℕ) × Takes taken old new
+StopsReading ReadFault old new = IsCutShort old new
+StopsReading status old new = Prim.⊥
 
-abbrev pub AfterPiece : Piece → Reader → List ℕ → Option (List ℕ) → Type 0
-AfterPiece More reader bytes left = HasRead reader bytes left
-AfterPiece End reader bytes left = IsAtEnd reader bytes left
-AfterPiece (Refused kind at) reader bytes left = IsFaulty bytes left kind at
-AfterPiece Memory reader bytes left = Prim.Unit {0}
-AfterPiece Fault reader bytes left = IsCutShort bytes left
+abbrev pub EndsReading : Result Text Status → (old new : Option (List ℕ)) → Type 0
+EndsReading (Ok text) old new = ReadsAll text old new
+EndsReading (Err status) old new = StopsReading status old new
+
+abbrev pub EndsFeeding : Result (Prim.Unit {0}) Status → Reader → (old new : Option (List ℕ)) → Type 0
+EndsFeeding (Ok _) reader old new = HasRead reader old new × IsAtEnd new
+EndsFeeding (Err status) reader old new = StopsReading status old new
+
+abbrev pub AfterPiece : Piece → Reader → (old new : Option (List ℕ)) → Type 0
+AfterPiece More reader old new = HasRead reader old new
+AfterPiece End reader old new = HasRead reader old new × IsAtEnd new
+AfterPiece (Stops status) reader old new = StopsReading status old new
 
 -- each piece but the last gives at least one byte
-abbrev pub AfterCount : Piece → ℕ → ℕ → Type 0
+abbrev pub AfterCount : Piece → (old new : ℕ) → Type 0
 AfterCount More old new = (old < new) × (new ≤ 1048576)
 AfterCount _ old new = Prim.Unit {0}
 
-abbrev pub AfterFaults : Piece → ℕ → ℕ → Type 0
-AfterFaults Fault old new = HasRisen old new
+-- The source's count of faults rises just where the status is a read fault.
+abbrev pub ReadFaults : Status → (old new : ℕ) → Type 0
+ReadFaults ReadFault old new = HasRisen old new
+ReadFaults status old new = new ≡ old
+
+abbrev pub AfterFaults : Piece → (old new : ℕ) → Type 0
+AfterFaults (Stops status) old new = ReadFaults status old new
 AfterFaults _ old new = new ≡ old
 
--- a text, the first refusal, or a fault of the source before any refusal
-abbrev pub EndsReading : Result Text ReadStop → List ℕ → Option (List ℕ) → Type 0
-EndsReading (Ok text) bytes left = IsRead bytes (forms_of text.names text.forms) text.names × (left ≡ Some [])
-EndsReading (Err (stops.Refused kind at)) bytes left = IsFaulty bytes left kind at
-EndsReading (Err stops.Memory) bytes left = Prim.Unit {0}
-EndsReading (Err stops.Fault) bytes left = IsCutShort bytes left
-
-abbrev pub EndsFeeding : Result (Prim.Unit {0}) ReadStop → Reader → List ℕ → Option (List ℕ) → Type 0
-EndsFeeding (Ok _) reader bytes left = IsAtEnd reader bytes left
-EndsFeeding (Err (stops.Refused kind at)) reader bytes left = IsFaulty bytes left kind at
-EndsFeeding (Err stops.Memory) reader bytes left = Prim.Unit {0}
-EndsFeeding (Err stops.Fault) reader bytes left = IsCutShort bytes left
-
--- the count of faults rises just where reading ends by a fault
-abbrev pub FaultsOfReading : {A : Type 0} → Result A ReadStop → ℕ → ℕ → Type 0
-FaultsOfReading (Err stops.Fault) old new = HasRisen old new
-FaultsOfReading _ old new = new ≡ old
+abbrev pub FaultsOfReading : {A : Type 0} → Result A Status → (old new : ℕ) → Type 0
+FaultsOfReading (Ok _) old new = new ≡ old
+FaultsOfReading (Err status) old new = ReadFaults status old new

@@ -1,7 +1,7 @@
 -- What a status says of a run, and its exit code.
 use Rattle.std.specs.Prelude.{ℕ}
-use Rattle.ql_meaning.specs.declared.world.Stop.{Stop}
-use Rattle.ql_meaning.specs.declared.world.Stop.TheVariants as stops
+use Rattle.ql_top.specs.declared.world.Stop.{Stop}
+use Rattle.ql_top.specs.declared.world.Stop.TheVariants as stops
 use Rattle.ql_top.specs.declared.status.Status.{Status}
 use Rattle.ql_top.specs.declared.status.Status.TheVariants.{Done, Refused, Words, Fault, Budget, Deadlock, Limit, NoMemory, ReadFault, WriteFault}
 

@@ -1,7 +1,7 @@
 -- Names and numbers in the lines that are written.
 use Rattle.std.specs.Prelude.{ℕ, ◌==◌, if◌then◌else◌, List, codes}
 use Rattle.ql_base.specs.declared.fault.RunFault.{RunFault}
-use Rattle.ql_base.specs.declared.fault.RunFault.TheVariants.{Overflow, NotNumber, NotPair, DivZero, Unbound, NoCatch, DeadFuture, DeadClosure, WrongCount, NotFunction}
+use Rattle.ql_base.specs.declared.fault.RunFault.TheVariants.{Overflow, NotNumber, NotPair, DivZero, Unbound, NoCatch, DeadFuture, DeadClosure, WrongCount, NotFunction, InCleanup}
 use Rattle.ql_base.specs.declared.limits.LimitKind.{LimitKind}
 use Rattle.ql_base.specs.declared.limits.LimitKind.TheVariants.{Cells, Procs, Output}
 
@@ -16,6 +16,7 @@ fault_name DeadFuture = codes "deadfuture"
 fault_name DeadClosure = codes "deadclosure"
 fault_name WrongCount = codes "wrongcount"
 fault_name NotFunction = codes "notfunction"
+fault_name InCleanup = codes "incleanup"
 
 abbrev pub limit_name : LimitKind → List ℕ
 limit_name Cells = codes "cells"

@@ -1,6 +1,7 @@
 -- The forms of a program that can't be run yet.
-use Rattle.std.specs.Prelude.{ℕ, Bool, true, false, ◌&&◌, ltb, if◌then◌else◌, List, [], ◌∷◌, ◌++◌, map, Option, Some, None, codes}
-use Rattle.std.specs.Str.{bytes_eq}
+use Rattle.std.specs.Prelude.{ℕ, Bool, true, false, ◌&&◌, ◌==◌, ltb, if◌then◌else◌, List, [], ◌∷◌, ◌++◌, map, Option, Some, None}
+use Rattle.ql_base.specs.Reserved.{number}
+use Rattle.ql_base.specs.declared.reserved.Reserved.TheVariants.{Plus}
 use Rattle.ql_forms.specs.Form.{Form, atom, integer}
 use Rattle.ql_expand.specs.Core.{Core, core, Node, constant, variable, setq, conditional, progn, binding, primitive, print, call, funcall, lambda, qlet, qlambda, catch, qcatch, throw, protect, defvar, Cores, no_cores, and_core, Bounds, no_bounds, and_bound, Function, function, Program, program}
 
@@ -16,7 +17,7 @@ are_two _ = false
 -- The form alone, without those in it, can be run: an integer, the primitive `+` of two operands, and `print`.
 abbrev pub is_built : Node → Bool
 is_built (constant f) = is_integer f
-is_built (primitive w cs) = are_two cs && bytes_eq w (codes "+")
+is_built (primitive w cs) = are_two cs && w == number Plus
 is_built (print c) = true
 is_built _ = false
 

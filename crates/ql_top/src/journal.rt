@@ -1,17 +1,30 @@
 //! The text of a journal.
 
-ghost use Rattle.std.specs.Prelude.{◌≡◌, ◌++◌, OnOk, codes};
+ghost use Rattle.std.specs.Prelude.{◌≡◌, ◌++◌, OnOk, OnErr, codes, length, take};
 ghost use Rattle.std.specs.Fmt.{decimal};
 ghost use Rattle.ql_top.specs.JournalText.{event_text, journal_text, stop_text};
 
 use crate::texts::{fault_name, limit_name};
+use crate::world::{Event, Stop};
 use itoa::Buffer;
-use ql_meaning::world::{Event, Stop};
 use std::alloc::AllocError;
 
-/// Appends a line for each event.
+/// Appends a line for each event to `to`, which is as before after want of memory.
 pub fn write_journal(to: &mut Vec<u8>, events: &[Event]) -> Result<(), AllocError>
-    ensures { OnOk result (to.new.items ≡ to.old.items ++ journal_text events.now) }
+    ensures ok { OnOk result (to.new.items ≡ to.old.items ++ journal_text events.now) }
+    ensures err { OnErr result (to.new.items ≡ to.old.items) }
+{
+    let before = to.len();
+    let written = write_events(to, events);
+    if written.is_err() {
+        to.truncate(before);
+    }
+    written
+}
+
+fn write_events(to: &mut Vec<u8>, events: &[Event]) -> Result<(), AllocError>
+    ensures ok { OnOk result (to.new.items ≡ to.old.items ++ journal_text events.now) }
+    ensures err { OnErr result (take (length to.old.items) to.new.items ≡ to.old.items) }
 {
     for event in events {
         write_event(to, *event)?;
@@ -20,7 +33,8 @@ pub fn write_journal(to: &mut Vec<u8>, events: &[Event]) -> Result<(), AllocErro
 }
 
 fn write_event(to: &mut Vec<u8>, event: Event) -> Result<(), AllocError>
-    ensures { OnOk result (to.new.items ≡ to.old.items ++ (event_text event ++ codes "\n")) }
+    ensures ok { OnOk result (to.new.items ≡ to.old.items ++ (event_text event ++ codes "\n")) }
+    ensures err { OnErr result (take (length to.old.items) to.new.items ≡ to.old.items) }
 {
     match event {
         Event::Turn { p, n } => {
@@ -49,7 +63,8 @@ fn write_event(to: &mut Vec<u8>, event: Event) -> Result<(), AllocError>
 }
 
 fn write_stop(to: &mut Vec<u8>, stop: Stop) -> Result<(), AllocError>
-    ensures { OnOk result (to.new.items ≡ to.old.items ++ stop_text stop) }
+    ensures ok { OnOk result (to.new.items ≡ to.old.items ++ stop_text stop) }
+    ensures err { OnErr result (take (length to.old.items) to.new.items ≡ to.old.items) }
 {
     match stop {
         Stop::Done => push_text(to, b"done"),
@@ -71,13 +86,15 @@ fn write_stop(to: &mut Vec<u8>, stop: Stop) -> Result<(), AllocError>
 }
 
 fn push_text(to: &mut Vec<u8>, text: &[u8]) -> Result<(), AllocError>
-    ensures { OnOk result (to.new.items ≡ to.old.items ++ text.now) }
+    ensures ok { OnOk result (to.new.items ≡ to.old.items ++ text.now) }
+    ensures err { OnErr result (to.new.items ≡ to.old.items) }
 {
     to.extend_from_slice(text)
 }
 
 fn push_number(to: &mut Vec<u8>, n: u64) -> Result<(), AllocError>
-    ensures { OnOk result (to.new.items ≡ to.old.items ++ decimal n) }
+    ensures ok { OnOk result (to.new.items ≡ to.old.items ++ decimal n) }
+    ensures err { OnErr result (to.new.items ≡ to.old.items) }
 {
     let mut buffer = Buffer::new();
     to.extend_from_slice(buffer.format(n).as_bytes())

@@ -3,7 +3,7 @@
 ghost use Rattle.std.specs.Prelude.{◌≡◌, ◌+◌, ℕ, ℤ, List, [], ◌∷◌, ◌++◌, length, Some, IfOk, OnOk, MatchOption, nat_lt, leb, if◌then◌else◌, slice_get};
 ghost use Rattle.std.specs.Fmt.{signed_decimal};
 ghost use Rattle.ql_base.specs.declared.limits.Limits.{Limits};
-ghost use Rattle.ql_meaning.specs.World.{turns};
+ghost use Rattle.ql_top.specs.World.{turns};
 ghost use Rattle.ql_top.specs.Code.{instruction};
 ghost use Rattle.ql_top.specs.Machine.{code_told};
 ghost use Rattle.ql_top.specs.Progress.{HasCome, Leads, journal_of};
@@ -11,11 +11,11 @@ ghost use Rattle.ql_top.specs.declared.code.Instruction.{Instruction};
 ghost use Rattle.ql_top.specs.declared.code.Op.TheVariants.{Lit, Sum, Print, Drop as Dropped, End};
 
 use crate::code::{Instruction, Op};
+use crate::world::{Event, Stop};
 use itoa::Buffer;
 use ql_base::fault::RunFault;
 use ql_base::limits::{LimitKind, Limits};
 use ql_base::numbers::{CatchId, Offset, Pid};
-use ql_meaning::world::{Event, Stop};
 use std::alloc::{AllocError, Global};
 use std::marker::Model;
 
@@ -282,3 +282,6 @@ impl Stack {
         self.words.last().copied()
     }
 }
+
+#[cfg(test)]
+mod tests;

@@ -3,10 +3,10 @@
 ghost use Rattle.std.specs.Prelude.{◌≡◌};
 ghost use Rattle.ql_top.specs.Status.{status_of, code_of};
 
+use crate::world::Stop;
 use ql_base::fault::RunFault;
 use ql_base::limits::LimitKind;
 use ql_base::numbers::Pid;
-use ql_meaning::world::Stop;
 
 /// How a call of the top ended.
 #[derive(Clone, Copy, Debug, PartialEq, Eq)]

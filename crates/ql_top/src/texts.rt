@@ -21,6 +21,7 @@ pub fn fault_name(kind: RunFault) -> &'static [u8]
         RunFault::DeadClosure => b"deadclosure",
         RunFault::WrongCount => b"wrongcount",
         RunFault::NotFunction => b"notfunction",
+        RunFault::InCleanup => b"incleanup",
     }
 }
 

@@ -3,40 +3,41 @@
 ghost use Rattle.std.specs.Prelude.{◌≡◌, ◌⊎◌, ◌↔◌, ℕ, List, [], Option, Some, None, Err, IfOk, OnOk, OnErr};
 ghost use Rattle.ql_base.specs.Limits.{usual};
 ghost use Rattle.ql_base.specs.Outside.{Appends};
-ghost use Rattle.ql_forms.specs.FormText.{forms_text};
+ghost use Rattle.ql_forms.specs.Form.{Forms};
 ghost use Rattle.ql_forms.specs.View.{forms_of};
-ghost use Rattle.ql_read.specs.TextFault.{IsRead};
-ghost use Rattle.ql_expand.specs.View as view;
-ghost use Rattle.ql_meaning.specs.Core.{Core};
-ghost use Rattle.ql_meaning.specs.Meaning.{program_told};
-ghost use Rattle.ql_meaning.specs.Run.{Story};
-ghost use Rattle.ql_top.specs.Acts.{TellsCode, TellsProgram, Runs, Writes, CarriesOut, FaultsOfWriting};
+ghost use Rattle.ql_expand.specs.Core.{Program as Meant};
+ghost use Rattle.ql_expand.specs.ProgramView.{program_of};
+ghost use Rattle.ql_top.specs.Runnable.{Core};
+ghost use Rattle.ql_top.specs.Meaning.{program_told};
+ghost use Rattle.ql_top.specs.Run.{Story};
+ghost use Rattle.ql_top.specs.Acts.{AnswersSome, Gives};
+ghost use Rattle.ql_top.specs.Machine.{code_told};
+ghost use Rattle.ql_top.specs.Reading.{ReadsAll, ReadFaults};
 ghost use Rattle.ql_top.specs.Status.{status_of};
-ghost use Rattle.ql_top.specs.Top.{Refusal, IsProgram, IsCutOff, Answers, StopsOrFails, IsSilent, ReadFaults, WriteFaults, SaysStatus, approval};
-ghost use Rattle.ql_top.specs.Unbuilt.{first_unbuilt};
+ghost use Rattle.ql_top.specs.Top.{Makes, Refusal, IsProgram, IsTold, IsCutOff, Written, Answers, AnswersTaken, StopsOrFails, IsSilent, WriteFaults, SaysStatus};
 ghost use Rattle.ql_top.specs.Words.{asked, texts_of};
 ghost use Rattle.ql_top.specs.declared.words.Command.{Command};
 
-use crate::accept::{Unfit, accept};
+use crate::accept::accept;
 use crate::code::Instruction;
 use crate::compile::{CompileRefusal, compile};
 use crate::error_line::write_error_line;
 use crate::journal::write_journal;
+use crate::laws::{at_most_one_program, programs_are_accepted, refused_at_most_once};
 use crate::machine::run;
-use crate::reading::{ReadStop, read_text};
+use crate::reading::read_text;
+use crate::run_laws::one_schedule;
 use crate::show::lines_of;
 use crate::status::{Status, status_of};
 use crate::words::{Command, asked};
+use crate::world::Stop;
 use crate::writing::write_text;
 use ql_base::limits::Limits;
-use ql_base::names::Names;
 use ql_base::outside::{Failed, Sink, Source};
-use ql_expand::laws::expands_to_at_most_one;
+use ql_expand::laws::forms_have_kinds_of_their_own;
 use ql_expand::program::Program;
-use ql_forms::form::Text;
-use ql_meaning::laws::one_schedule;
-use ql_meaning::world::Stop;
-use ql_read::laws::spells_at_most_one;
+use ql_forms::text::Text;
+use ql_scope::laws::names_have_kinds_of_their_own;
 use std::alloc::{AllocError, Global};
 
 #[cfg(test)]
@@ -45,9 +46,9 @@ mod tests;
 /// Does what the words ask for: reads the source, and writes output, a journal, and a line on `err`
 /// where not all went well.
 ///
-/// It always returns. A source of unknown bytes, as a file is, is read and run all the same: what is
-/// known of the answer then are its causes, in the counts of faults. `book` is for a journal to run
-/// along; no command reads one yet.
+/// It always returns. A source that doesn't tell its bytes, as a file, is answered as one in memory
+/// with the bytes that were taken from it. `book` is for a journal to run along; no command reads one
+/// yet.
 pub fn one<S: Source, B: Source, O: Sink, J: Sink, E: Sink>(
     alloc: Global,
     words: &[&str],
@@ -66,6 +67,10 @@ pub fn one<S: Source, B: Source, O: Sink, J: Sink, E: Sink>(
     // spells.
     ensures answer { (bytes : List ℕ) (command : Command) → S.left source.old ≡ Some bytes → asked (texts_of words.now) ≡ Some command
         → Answers command result bytes (S.left source.new) (O.held out.old) (O.held out.new) (J.held journal.old) (J.held journal.new) }
+
+    // That holds of every source, for the bytes that were taken.
+    ensures every { (command : Command) → asked (texts_of words.now) ≡ Some command
+        → AnswersTaken command result (S.left source.old) (S.left source.new) (O.held out.old) (O.held out.new) (J.held journal.old) (J.held journal.new) }
 
     // What must be refused is, unless memory or the source fails before.
     ensures refused { (bytes : List ℕ) (command : Command) (kind at : ℕ) → S.left source.old ≡ Some bytes → asked (texts_of words.now) ≡ Some command
@@ -90,9 +95,9 @@ pub fn one<S: Source, B: Source, O: Sink, J: Sink, E: Sink>(
     ensures no_book { (B.left book.new ≡ B.left book.old) × (B.faults book.new ≡ B.faults book.old) }
 {
     let _ = book;
-    // Three facts that the clauses rest on; the calls do nothing.
-    spells_at_most_one();
-    expands_to_at_most_one();
+    // Facts that the clauses rest on; the calls do nothing.
+    programs_are_accepted();
+    at_most_one_program();
     one_schedule();
     let status = answer(alloc, words, source, out, journal);
     let _ = write_error_line(err, status);
@@ -108,8 +113,8 @@ fn answer<S: Source, O: Sink, J: Sink>(
     journal: &mut J,
 ) -> Status
     ensures words { (result ≡ Status.Words) ↔ (asked (texts_of words.now) ≡ None) }
-    ensures answer { (bytes : List ℕ) (command : Command) → S.left source.old ≡ Some bytes → asked (texts_of words.now) ≡ Some command
-        → Answers command result bytes (S.left source.new) (O.held out.old) (O.held out.new) (J.held journal.old) (J.held journal.new) }
+    ensures answer { (command : Command) → asked (texts_of words.now) ≡ Some command
+        → AnswersSome command result (S.left source.old) (S.left source.new) (O.held out.old) (O.held out.new) (J.held journal.old) (J.held journal.new) }
     ensures read_faults { ReadFaults result (S.faults source.old) (S.faults source.new) }
     ensures write_faults { WriteFaults result (O.faults out.old) (O.faults out.new) (J.faults journal.old) (J.faults journal.new) }
     ensures silent { IsSilent result → (O.held out.new ≡ O.held out.old) × (J.held journal.new ≡ J.held journal.old) }
@@ -120,9 +125,7 @@ fn answer<S: Source, O: Sink, J: Sink>(
         None => Status::Words,
         Some(command) => match read_text(alloc, source) {
             Ok(text) => answer_text(alloc, command, &text, out, journal),
-            Err(ReadStop::Refused { kind, at }) => Status::Refused { kind, at },
-            Err(ReadStop::Memory) => Status::NoMemory,
-            Err(ReadStop::Fault) => Status::ReadFault,
+            Err(status) => status,
         },
     }
 }
@@ -135,98 +138,26 @@ fn answer_text<O: Sink, J: Sink>(
     out: &mut O,
     journal: &mut J,
 ) -> Status
-    ensures answer { (bytes : List ℕ) (left : Option (List ℕ)) → IsRead bytes (forms_of text.now.names text.now.forms) text.now.names × (left ≡ Some [])
-        → Answers command result bytes left (O.held out.old) (O.held out.new) (J.held journal.old) (J.held journal.new) }
+    ensures answer { (old new : Option (List ℕ)) → ReadsAll text.now old new
+        → AnswersSome command result old new (O.held out.old) (O.held out.new) (J.held journal.old) (J.held journal.new) }
     ensures read { result ≡ Status.ReadFault → ⊥ }
     ensures words { result ≡ Status.Words → ⊥ }
     ensures write_faults { WriteFaults result (O.faults out.old) (O.faults out.new) (J.faults journal.old) (J.faults journal.new) }
     ensures silent { IsSilent result → (O.held out.new ≡ O.held out.old) × (J.held journal.new ≡ J.held journal.old) }
     ensures no_journal { (command ≡ Command.Show) ⊎ (command ≡ Command.Check) → (J.held journal.new ≡ J.held journal.old) × (J.faults journal.new ≡ J.faults journal.old) }
 {
-    // A fact that the clauses rest on; the call does nothing.
-    expands_to_at_most_one();
-    match accept(alloc, text) {
-        Ok(scoped) => carry_out(alloc, command, text, scoped.program(), out, journal),
-        Err(Unfit::Bad { kind, at }) => Status::Refused { kind, at },
-        Err(Unfit::Memory(_)) => Status::NoMemory,
+    // Facts that the clauses rest on; the calls do nothing.
+    refused_at_most_once();
+    programs_are_accepted();
+    forms_have_kinds_of_their_own();
+    names_have_kinds_of_their_own();
+    match texts_of(alloc, command, text) {
+        Ok(texts) => write_texts(&texts, out, journal),
+        Err(status) => status,
     }
 }
 
-/// Carries out the command on the forms of a source and the program that they make.
-fn carry_out<O: Sink, J: Sink>(
-    alloc: Global,
-    command: Command,
-    text: &Text,
-    program: &Program,
-    out: &mut O,
-    journal: &mut J,
-) -> Status
-    ensures answer { CarriesOut command result (forms_of text.now.names text.now.forms) (view.program_of text.now.names program.now) (O.held out.old) (O.held out.new) (J.held journal.old) (J.held journal.new) }
-    ensures read { result ≡ Status.ReadFault → ⊥ }
-    ensures words { result ≡ Status.Words → ⊥ }
-    ensures write_faults { WriteFaults result (O.faults out.old) (O.faults out.new) (J.faults journal.old) (J.faults journal.new) }
-    ensures silent { IsSilent result → (O.held out.new ≡ O.held out.old) × (J.held journal.new ≡ J.held journal.old) }
-    ensures no_journal { (command ≡ Command.Show) ⊎ (command ≡ Command.Check) → (J.held journal.new ≡ J.held journal.old) × (J.faults journal.new ≡ J.faults journal.old) }
-{
-    match command {
-        Command::Run => run_program(alloc, &text.names, program, out, journal),
-        Command::Show => show_text(alloc, text, out),
-        Command::Check => write_all(out, b"ok\n"),
-    }
-}
-
-/// Runs a program, and writes what is told of the run.
-fn run_program<O: Sink, J: Sink>(
-    alloc: Global,
-    names: &Names,
-    program: &Program,
-    out: &mut O,
-    journal: &mut J,
-) -> Status
-    ensures answer { Runs result (view.program_of names.now program.now) (O.held out.old) (O.held out.new) (J.held journal.old) (J.held journal.new) }
-    ensures silent { IsSilent result → (O.held out.new ≡ O.held out.old) × (J.held journal.new ≡ J.held journal.old) }
-    ensures write_faults { WriteFaults result (O.faults out.old) (O.faults out.new) (J.faults journal.old) (J.faults journal.new) }
-{
-    match texts_of_run(alloc, names, program) {
-        Ok(texts) => match write_both(
-            out,
-            texts.output.as_slice(),
-            journal,
-            texts.journal.as_slice(),
-        ) {
-            Ok(()) => status_of(texts.stop),
-            Err(Failed) => Status::WriteFault,
-        },
-        Err(CompileRefusal::Unbuilt { at }) => Status::Refused { kind: 9, at },
-        Err(CompileRefusal::Memory(_)) => Status::NoMemory,
-    }
-}
-
-/// Writes each form of a source on a line of its own.
-fn show_text<O: Sink>(alloc: Global, text: &Text, out: &mut O) -> Status
-    ensures answer { Writes (forms_text (forms_of text.now.names text.now.forms)) result (O.held out.old) (O.held out.new) }
-    ensures silent { IsSilent result → O.held out.new ≡ O.held out.old }
-    ensures write_faults { (count : ℕ) → WriteFaults result (O.faults out.old) (O.faults out.new) count count }
-{
-    match lines_of(alloc, text) {
-        Ok(lines) => write_all(out, lines.as_slice()),
-        Err(_) => Status::NoMemory,
-    }
-}
-
-/// Writes a text that isn't of a run.
-fn write_all<O: Sink>(out: &mut O, text: &[u8]) -> Status
-    ensures answer { Writes text.now result (O.held out.old) (O.held out.new) }
-    ensures silent { IsSilent result → O.held out.new ≡ O.held out.old }
-    ensures write_faults { (count : ℕ) → WriteFaults result (O.faults out.old) (O.faults out.new) count count }
-{
-    match write_text(out, text) {
-        Ok(()) => Status::Done,
-        Err(Failed) => Status::WriteFault,
-    }
-}
-
-/// What is written of a run. Both texts are whole before the first is written.
+/// What a command writes. Both texts are whole before the first is written.
 #[derive(Drop)]
 struct Texts {
     output: Vec<u8>,
@@ -234,23 +165,38 @@ struct Texts {
     stop: Stop,
 }
 
-/// The texts of the run of a program.
-fn texts_of_run(alloc: Global, names: &Names, program: &Program) -> Result<Texts, CompileRefusal>
-    ensures ok { IfOk result (λ texts. TellsProgram (view.program_of names.now program.now) texts.stop texts.output.items texts.journal.items) }
-    ensures unbuilt { (at : ℕ) → result ≡ Err (CompileRefusal.Unbuilt at) → first_unbuilt (view.program_of names.now program.now) ≡ Some at }
+/// The texts of a command on the forms of a source, unless something is wrong with them.
+fn texts_of(alloc: Global, command: Command, text: &Text) -> Result<Texts, Status>
+    ensures texts { Gives command result text.now.names (forms_of text.now.forms) }
+    ensures no_journal { (command ≡ Command.Show) ⊎ (command ≡ Command.Check) → IfOk result (λ texts. texts.journal.items ≡ []) }
 {
-    match compile(alloc, names, program) {
+    match accept(alloc, text) {
+        Ok(scoped) => match command {
+            Command::Run => texts_of_run(alloc, scoped.program()),
+            Command::Show => texts_of_show(alloc, text),
+            Command::Check => texts_of_check(alloc),
+        },
+        Err(status) => Err(status),
+    }
+}
+
+/// The texts of the run of a program.
+fn texts_of_run(alloc: Global, program: &Program) -> Result<Texts, Status>
+    ensures { (names : List (List ℕ)) (forms : Forms) → Makes names forms (program_of program.now) → Gives Command.Run result names forms }
+{
+    match compile(alloc, program) {
         Ok(code) => match texts_of_code(alloc, code.as_slice()) {
             Ok(texts) => Ok(texts),
-            Err(error) => Err(CompileRefusal::Memory(error)),
+            Err(_) => Err(Status::NoMemory),
         },
-        Err(refusal) => Err(refusal),
+        Err(CompileRefusal::Unbuilt { at }) => Err(Status::Refused { kind: 9, at }),
+        Err(CompileRefusal::Memory(_)) => Err(Status::NoMemory),
     }
 }
 
 /// The texts of the run of this code, under the usual limits.
 fn texts_of_code(alloc: Global, code: &[Instruction]) -> Result<Texts, AllocError>
-    ensures { IfOk result (λ texts. TellsCode code.now texts.stop texts.output.items texts.journal.items) }
+    ensures { IfOk result (λ texts. IsTold (code_told code.now usual) texts.stop texts.output.items texts.journal.items) }
 {
     let limits = Limits::usual();
     let told = run(alloc, code, &limits)?;
@@ -263,6 +209,59 @@ fn texts_of_code(alloc: Global, code: &[Instruction]) -> Result<Texts, AllocErro
     })
 }
 
+/// Each form of a source on a line of its own.
+fn texts_of_show(alloc: Global, text: &Text) -> Result<Texts, Status>
+    ensures texts { (program : Meant) → Makes text.now.names (forms_of text.now.forms) program → Gives Command.Show result text.now.names (forms_of text.now.forms) }
+    ensures no_journal { IfOk result (λ texts. texts.journal.items ≡ []) }
+{
+    match lines_of(alloc, text) {
+        Ok(output) => Ok(output_alone(alloc, output)),
+        Err(_) => Err(Status::NoMemory),
+    }
+}
+
+/// That a source is a program in scope.
+fn texts_of_check(alloc: Global) -> Result<Texts, Status>
+    ensures texts { (names : List (List ℕ)) (forms : Forms) (program : Meant) → Makes names forms program → Gives Command.Check result names forms }
+    ensures no_journal { IfOk result (λ texts. texts.journal.items ≡ []) }
+{
+    match Vec::from_slice(alloc, b"ok\n") {
+        Ok(output) => Ok(output_alone(alloc, output)),
+        Err(_) => Err(Status::NoMemory),
+    }
+}
+
+/// This output, with no journal.
+fn output_alone(alloc: Global, output: Vec<u8>) -> Texts
+    ensures output { result.output.items ≡ output.items }
+    ensures journal { result.journal.items ≡ [] }
+    ensures stop { result.stop ≡ Stop.Done }
+{
+    Texts {
+        output,
+        journal: Vec::new(alloc),
+        stop: Stop::Done,
+    }
+}
+
+/// Writes both texts.
+fn write_texts<O: Sink, J: Sink>(texts: &Texts, out: &mut O, journal: &mut J) -> Status
+    ensures written { Written result texts.now.stop texts.now.output.items texts.now.journal.items (O.held out.old) (O.held out.new) (J.held journal.old) (J.held journal.new) }
+    ensures loud { IsSilent result → ⊥ }
+    ensures write_faults { WriteFaults result (O.faults out.old) (O.faults out.new) (J.faults journal.old) (J.faults journal.new) }
+    ensures no_journal { texts.now.journal.items ≡ [] → (J.held journal.new ≡ J.held journal.old) × (J.faults journal.new ≡ J.faults journal.old) }
+{
+    match write_both(
+        out,
+        texts.output.as_slice(),
+        journal,
+        texts.journal.as_slice(),
+    ) {
+        Ok(()) => status_of(texts.stop),
+        Err(Failed) => Status::WriteFault,
+    }
+}
+
 /// Writes the output, and once that was taken whole the journal.
 fn write_both<O: Sink, J: Sink>(
     out: &mut O,
@@ -273,7 +272,9 @@ fn write_both<O: Sink, J: Sink>(
     ensures output { OnOk result (Appends output.now (O.held out.old) (O.held out.new)) }
     ensures journal { OnOk result (Appends lines.now (J.held journal.old) (J.held journal.new)) }
     ensures cut_off { OnErr result (IsCutOff output.now lines.now (O.held out.old) (O.held out.new) (J.held journal.old) (J.held journal.new)) }
-    ensures faults { FaultsOfWriting result (O.faults out.old) (O.faults out.new) (J.faults journal.old) (J.faults journal.new) }
+    ensures kept { OnOk result ((O.faults out.new ≡ O.faults out.old) × (J.faults journal.new ≡ J.faults journal.old)) }
+    ensures failed { OnErr result (WriteFaults Status.WriteFault (O.faults out.old) (O.faults out.new) (J.faults journal.old) (J.faults journal.new)) }
+    ensures no_lines { lines.now ≡ [] → (J.held journal.new ≡ J.held journal.old) × (J.faults journal.new ≡ J.faults journal.old) }
 {
     match write_text(out, output) {
         Ok(()) => write_text(journal, lines),

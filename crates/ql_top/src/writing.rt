@@ -1,6 +1,6 @@
 //! A whole text is written.
 
-ghost use Rattle.std.specs.Prelude.{◌≡◌, ◌≤◌, ◌<◌, ◌+◌, IfOk, OnOk, OnErr, length, take, drop};
+ghost use Rattle.std.specs.Prelude.{◌≡◌, ◌≤◌, ◌<◌, ◌+◌, [], IfOk, OnOk, OnErr, length, take, drop};
 ghost use Rattle.ql_base.specs.Outside.{HasRisen, Appends, AppendsFront};
 
 use ql_base::outside::{Failed, Sink};
@@ -15,6 +15,7 @@ pub fn write_text<S: Sink>(sink: &mut S, text: &[u8]) -> Result<(), Failed>
     ensures kept { OnOk result (S.faults sink.new ≡ S.faults sink.old) }
     ensures front { OnErr result (AppendsFront text.now (S.held sink.old) (S.held sink.new)) }
     ensures failed { OnErr result (HasRisen (S.faults sink.old) (S.faults sink.new)) }
+    ensures nothing { text.now ≡ [] → result ≡ Ok tt }
 {
     let mut at = 0;
     'pieces: while at < text.len() {

@@ -1,7 +1,7 @@
 use Rattle.std.proofs.Common.{◌≡◌, ◌++◌, length, take, drop, ℕ, List, ◌+◌, ap, sym, ◌∙◌, [], ◌∷◌}
-use Rattle.ql_forms.specs.Form.{Form, Forms, more}
+use Rattle.ql_forms.specs.Spelled.{Form, Forms, more}
 use Rattle.ql_forms.specs.FormText.{form_text, items_text}
-use Rattle.ql_forms.specs.View.{form_of, forms_of}
+use Rattle.ql_forms.specs.View.{spelling_of, spellings_of}
 use Rattle.ql_forms.proofs.Written.{rest_text, front_more, front_on, next_of, all_done, first_done, other_done, on_err}
 use Rattle.ql_forms.proofs.write.+put.Goals as goal
 use Rattle.ql_forms.proofs.write.+put.Goals.{put_items-then-not-is_first+in_ok-push, put_items-else-not-is_first}
@@ -20,10 +20,10 @@ pub put_items-loop-item-preserved : goal.put_items-loop-item-preserved
 put_items-loop-item-preserved t c =
     let a : List ℕ = c.args.to.now.items in
     let names : List (List ℕ) = c.args.names.now in
-    let all : List ℕ = a ++ items_text (forms_of names c.args.items.now) in
-    let left : Forms = forms_of names (drop c.loop-item.item-index c.args.items.now) in
-    let others : Forms = forms_of names (drop (c.loop-item.item-index + 1) c.args.items.now) in
-    let f : Form = form_of names c.item-item.result in
+    let all : List ℕ = a ++ items_text (spellings_of names c.args.items.now) in
+    let left : Forms = spellings_of names (drop c.loop-item.item-index c.args.items.now) in
+    let others : Forms = spellings_of names (drop (c.loop-item.item-index + 1) c.args.items.now) in
+    let f : Form = spelling_of names c.item-item.result in
     let next : left ≡ more f others = next_of names c.args.items.now c.loop-item.item-index c.item-item.result c.loop-item-test.true c.item-item.is in
     let to : List ℕ = c.loop-item.to.items in
     let spaced : List ℕ = c.if-not-is_first.to.items in
@@ -44,4 +44,4 @@ put_items-loop-item-preserved t c =
     ]
 
 pub put_items-returns-clause-ok : goal.put_items-returns-clause-ok
-put_items-returns-clause-ok t c = all_done c.args.names.now c.args.items.now c.loop-item.item-index c.loop-item.is_first c.loop-item.to.items (c.args.to.now.items ++ items_text (forms_of c.args.names.now c.args.items.now)) c.loop-item-test.false c.loop-item.invariant.0
+put_items-returns-clause-ok t c = all_done c.args.names.now c.args.items.now c.loop-item.item-index c.loop-item.is_first c.loop-item.to.items (c.args.to.now.items ++ items_text (spellings_of c.args.names.now c.args.items.now)) c.loop-item-test.false c.loop-item.invariant.0

@@ -1,11 +1,11 @@
 use Rattle.std.specs.Vec.{vec_len}
-use Rattle.ql_forms.specs.Form.{with_tail}
-use Rattle.ql_forms.specs.View.{form_of}
+use Rattle.ql_forms.specs.Spelled.{with_tail}
+use Rattle.ql_forms.specs.View.{spelling_of}
 use Rattle.ql_read.proofs.Forms.{nil_form, tail_form, joined_form}
 use Rattle.ql_read.proofs.lists.dotted_list.Goals as goal
 
 pub returns-then-is_empty : goal.returns-then-is_empty
-returns-then-is_empty c = λ names g. nil_form names c.args.at (vec_len c.args.items) c.args.items.items (with_tail (form_of names c.args.last)) (form_of names c.reserved_word.result) g c.args.items.ok.0 c.if-is_empty.ensures (c.reserved_word.ensures names)
+returns-then-is_empty c = λ names g. nil_form names c.args.at (vec_len c.args.items) c.args.items.items (with_tail (spelling_of names c.args.last)) (spelling_of names c.reserved_word.result) g c.args.items.ok.0 c.if-is_empty.ensures (c.reserved_word.ensures names)
 
 pub returns-in-Atom : goal.returns-in-Atom
 returns-in-Atom c = λ names g.

@@ -1,25 +1,24 @@
 use Rattle.ql_expand.specs.View as view
-use Rattle.ql_expand.specs.View.{letters}
-use Rattle.ql_meaning.specs.Core.{core_of}
-use Rattle.ql_scope.proofs.Opened.{opened}
+use Rattle.ql_top.specs.Runnable.{core_of}
+use Rattle.ql_top.proofs.Opened.{opened}
 use Rattle.ql_top.proofs.Opened.{constant_is, print_is}
 use Rattle.ql_top.proofs.Compiles.{on_ok, adds_print, adds_short, adds_long}
 use Rattle.ql_top.proofs.compile.+compile_form.Goals as goal
 
 pub compile_form-returns-in-Const : goal.compile_form-returns-in-Const
 compile_form-returns-in-Const t c =
-    rw (opened c.args.names.now c.args.form.now, c.in-Const.is, constant_is c.args.names.now c.in-Const.constant) (c.compile_constant.ensures c.args.names.now)
+    rw (opened c.args.form.now, c.in-Const.is, constant_is c.in-Const.constant) (c.compile_constant.ensures)
 
 pub compile_form-returns-in_ok-compile_form-in-Print : goal.compile_form-returns-in_ok-compile_form-in-Print
 compile_form-returns-in_ok-compile_form-in-Print t c =
-    let step = on_ok c.put.result (adds_print c.args.form.now.at.0 (core_of (view.core_of c.args.names.now c.get.result.now)) c.args.code.now.items
+    let step = on_ok c.put.result (adds_print c.args.form.now.at.0 (core_of (view.core_of c.get.result.now)) c.args.code.now.items
     c.compile_form.new.code.items c.put.new.code.items c.in_ok-compile_form-in-Print.ensures) c.put.ensures in
-    rw (opened c.args.names.now c.args.form.now, c.in-Print.is, print_is c.args.names.now c.in-Print.printed) (rw c.get.ensures at step)
+    rw (opened c.args.form.now, c.in-Print.is, print_is c.in-Print.printed) (rw c.get.ensures at step)
 
 pub compile_primitive-returns-in_default : goal.compile_primitive-returns-in_default
 compile_primitive-returns-in_default t c =
-    adds_short c.args.names.now c.args.at.0 (letters c.args.names.now c.args.operator) c.args.operands.now _ _ c.in_default.len_below
+    adds_short c.args.at.0 c.args.operator c.args.operands.now _ _ c.in_default.len_below
 
 pub compile_primitive-returns-in_default-3 : goal.compile_primitive-returns-in_default-3
 compile_primitive-returns-in_default-3 t c =
-    adds_long c.args.names.now c.args.at.0 (letters c.args.names.now c.args.operator) c.args.operands.now _ _ c.in_default.len_at_least
+    adds_long c.args.at.0 c.args.operator c.args.operands.now _ _ c.in_default.len_at_least

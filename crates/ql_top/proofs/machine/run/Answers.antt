@@ -1,6 +1,6 @@
 use Rattle.std.proofs.Common.{arith}
 use Rattle.std.proofs.lemmas.Option.{slice_get-get_or}
-use Rattle.ql_meaning.specs.declared.world.Stop.TheVariants.{Deadlock}
+use Rattle.ql_top.specs.declared.world.Stop.TheVariants.{Deadlock}
 use Rattle.ql_top.proofs.Runs.{rests_outside, told_of, told_ok}
 use Rattle.ql_top.proofs.machine.run.Goals as goal
 

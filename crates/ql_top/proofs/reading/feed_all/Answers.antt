@@ -1,4 +1,4 @@
 use Rattle.ql_top.proofs.reading.feed_all.Goals as goal
 
 pub returns-in-End-clause-bytes : goal.returns-in-End-clause-bytes
-returns-in-End-clause-bytes g c b e = c.in-End.ensures.bytes b (c.pieces.invariant.read b e)
+returns-in-End-clause-bytes g c = c.in-End.ensures.bytes _ c.pieces.invariant.read

@@ -3,4 +3,4 @@ use Rattle.ql_top.proofs.Built.{two_are}
 use Rattle.ql_top.proofs.unbuilt.are_two.Goals as goal
 
 pub returns : goal.returns
-returns c names = two_are names c.args.cores.now _ refl
+returns c = two_are c.args.cores.now _ refl

@@ -6,7 +6,5 @@ use Rattle.ql_top.proofs.unbuilt.first_unbuilt.Goals as goal
 
 pub returns : goal.returns
 returns c =
-    let names = c.args.names.now in
-    two_found None c.find_functions.new.first c.find_in_cores.new.first (map function_place (map (function_of names) c.args.program.now.functions))
-    (cores_places (cores_of names c.args.program.now.body))
-    (rw c.as_slice.ensures at (c.find_functions.ensures names)) (rw c.as_slice-2.ensures at c.find_in_cores.ensures)
+    two_found None c.find_functions.new.first c.find_in_cores.new.first (map function_place (map function_of c.args.program.now.functions))
+    (cores_places (cores_of c.args.program.now.body)) (rw c.as_slice.ensures at c.find_functions.ensures) (rw c.as_slice-2.ensures at c.find_in_cores.ensures)

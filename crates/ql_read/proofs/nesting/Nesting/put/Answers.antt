@@ -1,5 +1,5 @@
 use Rattle.std.proofs.Common.{[], ◌∷◌, ◌++◌, ap, ◌∙◌}
-use Rattle.ql_forms.specs.View.{form_of}
+use Rattle.ql_forms.specs.View.{spelling_of}
 use Rattle.ql_read.specs.Scan.{push}
 use Rattle.ql_read.specs.View.{stack_of}
 use Rattle.ql_read.specs.declared.nesting.Frame.TheVariants.{PastTail}
@@ -16,7 +16,7 @@ pub frames-preserved : goal.frames-preserved
 frames-preserved c = record {
   forms = λ later g.
       ap (λ f. push f (stack_of later c.pop.new.self.items c.frames.self.top.items)) (c.in_ok-ended-in-Some-InQuote.ensures later g)
-      ∙ put_quote later c.frames.self.frames.items c.pop.new.self.items c.frames.self.top.items c.in-Some-InQuote.at (form_of later c.frames.ended)
+      ∙ put_quote later c.frames.self.frames.items c.pop.new.self.items c.frames.self.top.items c.in-Some-InQuote.at (spelling_of later c.frames.ended)
       (c.in-Some-InQuote.ensures.items ∙ ap (λ f. c.pop.new.self.items ++ f ∷ []) c.in-Some-InQuote.field-0-is)
       ∙ c.frames.invariant.forms later g;
   names = c.frames.invariant.names;

@@ -1,6 +1,6 @@
 use Rattle.std.proofs.Common.{◌≡◌, ◌<◌, ◌+◌, ℕ, List, [], ◌∷◌, ◌++◌, length, refl, sym, subst}
 use Rattle.ql_base.specs.Names.{with_names}
-use Rattle.ql_forms.specs.Form.{none}
+use Rattle.ql_forms.specs.Spelled.{none}
 use Rattle.ql_read.specs.TextFault.{IsRefused, unfinished}
 use Rattle.ql_read.specs.Numbering.{ended}
 use Rattle.ql_read.specs.Scan.{top, scan, start}
@@ -8,6 +8,7 @@ use Rattle.ql_read.specs.Fault.{fault_told}
 use Rattle.ql_read.specs.View.{nested, state_of}
 use Rattle.ql_read.proofs.Naming.{goes_on_same}
 use Rattle.ql_read.proofs.Taking.{leads_on, taken_one, byte_is_bad, bad_is_here, one_too_many, as_answered}
+use Rattle.std.proofs.Math.Logic.{∥∥₁_map}
 use Rattle.ql_read.proofs.reader.Reader.take.Goals as goal
 
 pub returns-then-self-ge-LIMIT-clause-bad : goal.returns-then-self-ge-LIMIT-clause-bad
@@ -41,5 +42,17 @@ returns-in-Some-clause-here c = λ kind at e p h.
 pub returns-in-None-clause-ok : goal.returns-in-None-clause-ok
 returns-in-None-clause-ok c = λ p h.
     let old = c.args.self.now in
-    taken_one old (record { taken = old.taken + 1; token = c.in-Ok.next; nesting = c.take_byte.new.nesting; refused = old.refused }) p c.args.b c.replace-token.result h
+    taken_one old old.refused (old.taken + 1) c.in-Ok.next c.take_byte.new.nesting p c.args.b c.replace-token.result h
     h.reading refl c.if-self-ge-LIMIT.false c.replace-token.ensures.value c.in-Ok.ensures.ok c.in-Ok.ensures.names (λ k. sym (c.in-None.ensures (old.taken + 1) k))
+
+pub invariant_of-self-in-None : goal.invariant_of-self-in-None
+invariant_of-self-in-None c =
+    let old = c.args.self.now in
+    record {
+      taken_some = ∥∥₁_map old.taken_some (λ some e.
+          let (p, h) = some e in (
+            p ++ c.args.b ∷ [],
+            taken_one old old.refused (old.taken + 1) c.in-Ok.next c.take_byte.new.nesting p c.args.b c.replace-token.result h
+                e refl c.if-self-ge-LIMIT.false c.replace-token.ensures.value c.in-Ok.ensures.ok c.in-Ok.ensures.names (λ k. sym (c.in-None.ensures (old.taken + 1) k)),
+          ));
+    }

@@ -1,15 +1,20 @@
-use Rattle.std.proofs.Common.{◌≡◌, ◌<◌, ◌∙◌, length, arith, None, get_or}
-use Rattle.ql_scope.proofs.Counted.{same_default}
-use Rattle.ql_scope.proofs.Above.{pushed_named}
+use Rattle.std.proofs.Common.{◌≡◌, ◌∙◌, arith, sym, None, get_or}
+use Rattle.ql_scope.specs.CheckTables.{HasInnermost}
+use Rattle.ql_scope.proofs.Above.{pushed_hidden, pushed_named}
 use Rattle.ql_scope.proofs.binder_stack.BinderStack.push.Goals as goal
+
+pub invariant_of-self-in_default : goal.invariant_of-self-in_default
+invariant_of-self-in_default c =
+    rw c.in_ok-push.ensures.items (pushed_hidden c.self.inside.row.items (record { binder = c.args.binder; hides = None }) c.self.inside.innermost.items c.in_default.field-0 c.self.invariant c.in_default.is)
 
 pub invariant_of-self-2 : goal.invariant_of-self-2
 invariant_of-self-2 c =
-    let names = c.self.inside.names.now in
-    let offsets = c.self.inside.innermost.items in
-    let numbered : c.in-Sym.number < length names = omega arith in
-    let within : c.in-Sym.number < length offsets = rw c.self.invariant.room numbered in
-    let hides : c.index-hides.result.now ≡ get_or offsets c.in-Sym.number None =
-    c.index-hides.ensures ∙ same_default offsets c.in-Sym.number c.index-hides.result.now None within in
+    let row = c.self.inside.row.items in
+    let old = c.self.inside.innermost.items in
+    let reached = c.reach.new.table.items in
+    let n = c.in-Sym.number in
+    let kept : HasInnermost row reached = record { innermost = λ m. c.in_ok-reach.ensures.same m ∙ c.self.invariant.innermost m; kept = c.self.invariant.kept } in
+    let hides : c.value_at-hides.result ≡ get_or reached n None = (rw c.deref.ensures.value at c.value_at-hides.ensures) ∙ sym (c.in_ok-reach.ensures.same n) in
     rw c.in_ok-push-2.ensures.items
-    (pushed_named names c.self.inside.row.items offsets (record { binder = c.args.binder; hides = c.index-hides.result.now }) c.in-Sym.number c.self.invariant c.in-Sym.is numbered hides)
+    (pushed_named row (record { binder = c.args.binder; hides = c.value_at-hides.result }) reached c.replace.new.table.items n c.len.result (omega arith) kept c.in-Sym.is hides
+    (c.replace.ensures c.in_ok-reach.ensures.reached))

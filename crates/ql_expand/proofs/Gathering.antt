@@ -1,0 +1,86 @@
+-- What loops over forms have built so far.
+use Rattle.std.proofs.Common.{◌≡◌, ℕ, ◌+◌, ◌<◌, ◌≤◌, List, [], ◌∷◌, ◌++◌, length, get_or, drop, refl, sym, ap, subst, ◌∙◌}
+use Rattle.std.specs.Prelude.{Bool, true, false}
+use Rattle.ql_forms.specs.Form.{Form as Datum, Forms, none, more}
+use Rattle.ql_forms.specs.View.{form_of, forms_of}
+use Rattle.ql_forms.specs.declared.form.Form.{Form}
+use Rattle.ql_expand.specs.Building.{EachOf, none_of, one_of}
+use Rattle.ql_expand.specs.Core as spec
+use Rattle.ql_expand.specs.Core.{Cores, no_cores, and_core, joined_cores, Bounds, no_bounds, and_bound, joined_bounds}
+use Rattle.ql_expand.specs.Expands.{Expands, InTurn, last_form, then_forms, Bind, Binds, none_bound, one_bound}
+use Rattle.ql_expand.specs.View.{core_of, cores_of, bound_of, bounds_of}
+use Rattle.ql_expand.specs.declared.core_form.Bound.{Bound}
+use Rattle.ql_expand.specs.declared.core_form.Core.{Core}
+use Rattle.ql_expand.proofs.Weights.{drop_at, drop_all}
+
+-- These cores, and more of them for the forms from this place on, are those of all the forms.
+abbrev pub Gathered : Bool → List Form → ℕ → List Core → Type 0
+Gathered d xs i cs = (ds : Cores) → EachOf d (forms_of (drop i xs)) ds → EachOf d (forms_of xs) (joined_cores (cores_of cs) ds)
+
+pub cores_last : (cs : List Core) (c : Core) (ds : Cores) → joined_cores (cores_of (cs ++ c ∷ [])) ds ≡ joined_cores (cores_of cs) (and_core (core_of c) ds)
+cores_last [] c ds = refl
+cores_last (b ∷ cs) c ds = ap (λ es. and_core (core_of b) es) (cores_last cs c ds)
+
+pub cores_alone : (cs : List Core) → joined_cores (cores_of cs) no_cores ≡ cores_of cs
+cores_alone [] = refl
+cores_alone (b ∷ cs) = ap (λ es. and_core (core_of b) es) (cores_alone cs)
+
+pub gathered_more : (d : Bool) (xs : List Form) (i : ℕ) (cs now : List Core) (x : Form) (c : Core) → Gathered d xs i cs → i < length xs → x ≡ get_or xs i x
+    → Expands d (form_of x) (core_of c) → now ≡ cs ++ c ∷ [] → Gathered d xs (i + 1) now
+gathered_more d xs i cs now x c g h e y p ds rest =
+    let here : EachOf d (forms_of (drop i xs)) (and_core (core_of c) ds) =
+    subst (λ ys. EachOf d (forms_of ys) (and_core (core_of c) ds)) (sym (drop_at xs i x h e)) (one_of y rest) in
+    subst (EachOf d (forms_of xs)) (sym (ap (λ es. joined_cores (cores_of es) ds) p ∙ cores_last cs c ds)) (g (and_core (core_of c) ds) here)
+
+pub gathered_all : (d : Bool) (xs : List Form) (i : ℕ) (cs : List Core) → Gathered d xs i cs → length xs ≤ i → EachOf d (forms_of xs) (cores_of cs)
+gathered_all d xs i cs g h =
+    subst (EachOf d (forms_of xs)) (cores_alone cs) (g no_cores (subst (λ ys. EachOf d (forms_of ys) no_cores) (sym (drop_all xs i h)) none_of))
+
+-- ---- forms of which the last is used
+
+appended : Forms → Datum → Forms
+appended none g = more g none
+appended (more f fs) g = more f (appended fs g)
+
+appended_is : (xs : List Form) (x : Form) → forms_of (xs ++ x ∷ []) ≡ appended (forms_of xs) (form_of x)
+unfolding appended
+appended_is [] x = refl
+appended_is (y ∷ xs) x = ap (more (form_of y)) (appended_is xs x)
+
+turns : {fs : Forms} {g : Datum} {cs : Cores} {c : spec.Core} → EachOf true fs cs → Expands false g c → InTurn (appended fs g) (joined_cores cs (and_core c no_cores))
+unfolding appended
+turns none_of y = last_form y
+turns (one_of u none_of) y = then_forms u (last_form y)
+turns (one_of u (one_of v vs)) y = then_forms u (turns (one_of v vs) y)
+
+pub turns_all : (all xs : List Form) (x : Form) (now cs : List Core) (c : Core) → all ≡ xs ++ x ∷ [] → now ≡ cs ++ c ∷ [] → EachOf true (forms_of xs) (cores_of cs)
+    → Expands false (form_of x) (core_of c) → InTurn (forms_of all) (cores_of now)
+turns_all all xs x now cs c e p y z =
+    let made : cores_of now ≡ joined_cores (cores_of cs) (and_core (core_of c) no_cores) =
+    ap cores_of p ∙ sym (cores_alone (cs ++ c ∷ [])) ∙ cores_last cs c no_cores in
+    rw (made, e, appended_is xs x) (turns y z)
+
+-- ---- bindings
+
+abbrev pub Bound_so_far : List Form → ℕ → List Bound → Type 0
+Bound_so_far xs i bs = (ds : Bounds) → Binds (forms_of (drop i xs)) ds → Binds (forms_of xs) (joined_bounds (bounds_of bs) ds)
+
+bounds_last : (bs : List Bound) (b : Bound) (ds : Bounds)
+    → joined_bounds (bounds_of (bs ++ b ∷ [])) ds ≡ joined_bounds (bounds_of bs) (and_bound (bound_of b).0 (bound_of b).1 ds)
+bounds_last [] b ds = refl
+bounds_last (c ∷ bs) b ds = ap (λ es. and_bound (bound_of c).0 (bound_of c).1 es) (bounds_last bs b ds)
+
+bounds_alone : (bs : List Bound) → joined_bounds (bounds_of bs) no_bounds ≡ bounds_of bs
+bounds_alone [] = refl
+bounds_alone (c ∷ bs) = ap (λ es. and_bound (bound_of c).0 (bound_of c).1 es) (bounds_alone bs)
+
+pub bound_more : (xs : List Form) (i : ℕ) (bs now : List Bound) (x : Form) (b : Bound) → Bound_so_far xs i bs → i < length xs → x ≡ get_or xs i x
+    → Bind (form_of x) (bound_of b).0 (bound_of b).1 → now ≡ bs ++ b ∷ [] → Bound_so_far xs (i + 1) now
+bound_more xs i bs now x b g h e y p ds rest =
+    let all = and_bound (bound_of b).0 (bound_of b).1 ds in
+    let here : Binds (forms_of (drop i xs)) all = subst (λ ys. Binds (forms_of ys) all) (sym (drop_at xs i x h e)) (one_bound y rest) in
+    subst (Binds (forms_of xs)) (sym (ap (λ es. joined_bounds (bounds_of es) ds) p ∙ bounds_last bs b ds)) (g all here)
+
+pub bound_all : (xs : List Form) (i : ℕ) (bs : List Bound) → Bound_so_far xs i bs → length xs ≤ i → Binds (forms_of xs) (bounds_of bs)
+bound_all xs i bs g h =
+    subst (Binds (forms_of xs)) (bounds_alone bs) (g no_bounds (subst (λ ys. Binds (forms_of ys) no_bounds) (sym (drop_all xs i h)) none_bound))

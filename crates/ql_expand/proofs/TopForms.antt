@@ -1,0 +1,155 @@
+-- Top forms, one after another.
+use Rattle.std.proofs.Common.{◌≡◌, ℕ, ◌+◌, ◌<◌, ◌≤◌, zero, suc, List, [], ◌∷◌, ◌++◌, drop, length, get_or, map, Some, None, Option, refl, sym, ap, ◌∙◌, subst, arith}
+use Rattle.std.specs.Prelude.{if◌then◌else◌, ◌||◌, ◌&&◌, ◌==◌, Bool, true, false, ltb, slice_get, Result, Ok, Err, OnOk}
+use Rattle.std.proofs.lemmas.List.{append-nil}
+use Rattle.std.proofs.lemmas.Option.{slice_get_within}
+use Rattle.ql_base.specs.Names.{BeginsWithReserved}
+use Rattle.ql_base.specs.Refusal.{first_of, least, number_of}
+use Rattle.ql_base.specs.declared.refusal.Fault.{Fault}
+use Rattle.ql_forms.specs.Form.{Form as Datum, Forms, none, more, atom, list, Tail, proper, dotted, symbol, integer, operation_in, place_of}
+use Rattle.ql_forms.specs.View.{form_of, forms_of}
+use Rattle.ql_forms.specs.declared.form.Form.{Form}
+use Rattle.ql_expand.specs.Building.{IsFine, IsFineSplit}
+use Rattle.ql_expand.specs.Core.{Cores, no_cores, and_core, joined_cores}
+use Rattle.ql_expand.specs.ExpandFault.{form_faults, source_faults, unless_deep}
+use Rattle.ql_expand.specs.Expands.{TopForms, no_tops, applied}
+use Rattle.ql_expand.specs.Operator.{operator_of, reading_of}
+use Rattle.ql_expand.specs.Parts.{Split, definition, assignment, definition_by, assignment_by, parts_by}
+use Rattle.ql_expand.specs.Searching.{split_faults, operation_faults, top_faults, level_below}
+use Rattle.ql_expand.specs.Tops.{IsFineTop, Adds, Made, with_function, with_global, with_core}
+use Rattle.ql_expand.specs.View.{core_of, cores_of, function_of}
+use Rattle.ql_expand.specs.declared.core_form.Core.{Core}
+use Rattle.ql_expand.specs.declared.operator.Operator.{Operator}
+use Rattle.ql_expand.specs.declared.operator.Operator.TheVariants.{Defun, Defvar}
+use Rattle.ql_expand.specs.declared.operator.Reading.{Reading}
+use Rattle.ql_expand.specs.declared.operator.Reading.TheVariants.{Global, Definition}
+use Rattle.ql_expand.specs.declared.top.Top.{Top}
+use Rattle.ql_expand.specs.declared.top.Tops.{Tops}
+use Rattle.ql_expand.proofs.Fine.{neither, undeep, fine_split}
+use Rattle.ql_expand.proofs.Splits.{form_is}
+use Rattle.ql_expand.proofs.Weights.{drop_at, drop_all}
+
+pick : (b : Bool) (f g : Fault) → (k : Fault) × ((if b then Some g else Some f) ≡ Some k)
+pick true f g = (g, refl)
+pick false f g = (f, refl)
+
+some_stays : (f : Fault) (gs : List Fault) → first_of (Some f) gs ≡ None → ⊥
+some_stays f [] h = cc
+some_stays f (g ∷ gs) h =
+    let p = pick (ltb g.at.0 f.at.0 || (g.at.0 == f.at.0 && ltb (number_of g.kind) (number_of f.kind))) f g in
+    some_stays p.0 gs (ap (λ z. first_of z gs) (sym p.1) ∙ h)
+
+-- Where no fault is the first, there is none.
+pub none_found : (gs : List Fault) → least gs ≡ None → gs ≡ []
+none_found [] h = refl
+none_found (g ∷ gs) h = absurd (some_stays g gs h)
+
+-- one core more
+pub pushed : (xs : List Core) (x : Core) (cs : Cores) → joined_cores (cores_of (xs ++ x ∷ [])) cs ≡ joined_cores (cores_of xs) (and_core (core_of x) cs)
+pushed [] x cs = refl
+pushed (y ∷ xs) x cs = ap (and_core (core_of y)) (pushed xs x cs)
+
+pub pushed_core : {A E : Type 0} (r : Result A E) (xs ys : List Core) (x : Core) (cs : Cores) → OnOk r (ys ≡ xs ++ x ∷ [])
+    → OnOk r (joined_cores (cores_of ys) cs ≡ joined_cores (cores_of xs) (and_core (core_of x) cs))
+pushed_core (Ok a) xs ys x cs e = ap (λ z. joined_cores (cores_of z) cs) e ∙ pushed xs x cs
+pushed_core (Err a) xs ys x cs e = tt
+
+pub none_more : (cs : Cores) → joined_cores cs no_cores ≡ cs
+none_more no_cores = refl
+none_more (and_core c cs) = ap (and_core c) (none_more cs)
+
+none_there : (xs : List Form) (i : ℕ) → length xs ≤ i → forms_of (drop i xs) ≡ none
+none_there xs i le = ap forms_of (drop_all xs i le)
+
+-- the forms from a place on
+pub from_there : (xs : List Form) (i : ℕ) (x : Form) → i < length xs → x ≡ get_or xs i x → forms_of (drop i xs) ≡ more (form_of x) (forms_of (drop (i + 1) xs))
+from_there xs i x lt e = ap forms_of (drop_at xs i x lt e)
+
+-- a top form at a place has no fault
+pub fine_top_at : (names : List (List ℕ)) (xs : List Form) (i : ℕ) (x : Form) → source_faults names (forms_of xs) ≡ [] → i < length xs → x ≡ get_or xs i x → IsFineTop (form_of x)
+fine_top_at names [] i x h lt e = absurd (omega (arith, lt))
+fine_top_at names (y ∷ xs) zero x h lt e =
+    (names, subst (λ z. form_faults names true 1 (form_of z) ≡ []) (sym e) (neither (form_faults names true 1 (form_of y)) (source_faults names (forms_of xs)) h).0)
+fine_top_at names (y ∷ xs) (suc i) x h lt e =
+    fine_top_at names xs i x (neither (form_faults names true 1 (form_of y)) (source_faults names (forms_of xs)) h).1 (omega (arith, lt)) e
+
+pub made_none : (all : List Form) (t : Tops) → t.functions ≡ [] → t.globals ≡ [] → t.body ≡ [] → Made all 0 t
+made_none all t f g b fs ns cs h = rw (f, g, b) h
+
+pub made_next : (all : List Form) (i : ℕ) (x : Form) (t u : Tops) (top : Top) → Made all i t → i < length all → x ≡ get_or all i x → Adds (form_of x) top
+    → ((after : List _) → map function_of u.functions ++ after ≡ map function_of t.functions ++ with_function top after)
+    → ((after : List ℕ) → u.globals ++ after ≡ t.globals ++ with_global top after)
+    → ((after : Cores) → joined_cores (cores_of u.body) after ≡ joined_cores (cores_of t.body) (with_core top after)) → Made all (i + 1) u
+made_next all i x t u top made lt e adds f g b fs ns cs h =
+    rw (f fs, g ns, b cs) (made (with_function top fs) (with_global top ns) (with_core top cs)
+    (subst (λ z. TopForms z (with_function top fs) (with_global top ns) (with_core top cs)) (sym (from_there all i x lt e)) (adds (forms_of (drop (i + 1) all)) fs ns cs h)))
+
+pub made_all : (all : List Form) (i : ℕ) (t : Tops) → Made all i t → length all ≤ i → TopForms (forms_of all) (map function_of t.functions) t.globals (cores_of t.body)
+made_all all i t made le =
+    let end : TopForms (forms_of (drop i all)) [] [] no_cores = subst (λ z. TopForms z [] [] no_cores) (sym (none_there all i le)) no_tops in
+    let whole = made [] [] no_cores end in
+    rw (← append-nil (map function_of t.functions), ← append-nil t.globals, ← none_more (cores_of t.body)) whole
+
+-- what reads as a definition is one
+pub definition_is : (fs : Forms) (o v : ℕ) (ps : Datum) (es : Forms) → definition o v ps es ≡ definition_by fs → fs ≡ more (atom o (symbol v)) (more ps es)
+definition_is none o v ps es e = cc
+definition_is (more f none) o v ps es e = cc
+definition_is (more (atom p (symbol w)) (more qs gs)) o v ps es e = cc
+definition_is (more (atom p (integer z)) (more qs gs)) o v ps es e = cc
+definition_is (more (list p hs t) (more qs gs)) o v ps es e = cc
+
+pub assignment_is : (fs : Forms) (o v : ℕ) (f : Datum) → assignment o v f ≡ assignment_by fs → fs ≡ more (atom o (symbol v)) (more f none)
+assignment_is none o v f e = cc
+assignment_is (more (atom p (symbol w)) none) o v f e = cc
+assignment_is (more (atom p (symbol w)) (more g none)) o v f e = cc
+assignment_is (more (atom p (symbol w)) (more g (more h hs))) o v f e = cc
+assignment_is (more (atom p (integer z)) fs) o v f e = cc
+assignment_is (more (list p hs t) fs) o v f e = cc
+
+-- the parts of a top form without a fault
+pub fine_parts : (f : Datum) (o : (ℕ × ℕ) × Forms) → IsFineTop f → operation_in f ≡ Some o → IsFineSplit (parts_by (reading_of (operator_of o.0.1)) o.1)
+fine_parts (atom at a) o h e = cc
+fine_parts (list at fs t) o (names, h) e =
+    let r = reading_of (operator_of o.0.1) in
+    let all : operation_faults names true 1 at (operation_in (list at fs t)) ≡ [] =
+    undeep 1 at (operation_faults names true 1 at (operation_in (list at fs t))) (sym (form_is names true 1 (list at fs t)) ∙ h) in
+    let read : top_faults true at r ++ split_faults names (level_below r 1 o.1) at (parts_by r o.1) ≡ [] = ap (operation_faults names true 1 at) (sym e) ∙ all in
+    fine_split names (level_below r 1 o.1) at (parts_by r o.1) (neither (top_faults true at r) (split_faults names (level_below r 1 o.1) at (parts_by r o.1)) read).1
+
+-- An operator that may stand inside may stand at the top.
+same_place : (r : Reading) (at : ℕ) → top_faults false 0 r ≡ [] → top_faults false at r ≡ top_faults true at r
+same_place Global at h = cc
+same_place Definition at h = cc
+same_place _ at h = refl
+
+same_operation : (names : List (List ℕ)) (at : ℕ) (o : Option ((ℕ × ℕ) × Forms)) → ((p : (ℕ × ℕ) × Forms) → o ≡ Some p → top_faults false 0 (reading_of (operator_of p.0.1)) ≡ [])
+    → operation_faults names false 1 at o ≡ operation_faults names true 1 at o
+same_operation names at None inside = refl
+same_operation names at (Some p) inside =
+    let r = reading_of (operator_of p.0.1) in ap (λ z. z ++ split_faults names (level_below r 1 p.1) at (parts_by r p.1)) (same_place r at (inside p refl))
+
+-- a top form that defines nothing is a form
+pub fine_plain : (f : Datum) → IsFineTop f → ((o : (ℕ × ℕ) × Forms) → operation_in f ≡ Some o → top_faults false 0 (reading_of (operator_of o.0.1)) ≡ []) → IsFine f
+fine_plain (atom at a) (names, h) inside = (names, 1, h)
+fine_plain (list at fs t) (names, h) inside = (
+  names,
+  1,
+  form_is names false 1 (list at fs t)
+      ∙ ap (unless_deep 1 at) (same_operation names at (operation_in (list at fs t)) inside) ∙ sym (form_is names true 1 (list at fs t)) ∙ h,
+)
+
+by_operator : (r : Operator) → (r ≡ Defun → ⊥) → (r ≡ Defvar → ⊥) → top_faults false 0 (reading_of r) ≡ []
+by_operator Defun f g = absurd (f refl)
+by_operator Defvar f g = absurd (g refl)
+by_operator _ f g = refl
+
+-- the operator of a form that defines nothing
+pub plain_operator : (f : Datum) (o p : (ℕ × ℕ) × Forms) (r : Operator) → operation_in f ≡ Some o → operation_in f ≡ Some p → r ≡ operator_of o.0.1 → (r ≡ Defun → ⊥) → (r ≡ Defvar → ⊥)
+    → top_faults false 0 (reading_of (operator_of p.0.1)) ≡ []
+plain_operator f o p r h i e f1 f2 =
+    let same : o ≡ p = cc in
+    subst (λ q. top_faults false 0 (reading_of (operator_of q.0.1)) ≡ []) same (subst (λ q. top_faults false 0 (reading_of q) ≡ []) e (by_operator r f1 f2))
+
+-- A table of names has at least the reserved words.
+pub many_names : (names : List (List ℕ)) → BeginsWithReserved names → 46 ≤ length names
+many_names names begins = let within : 45 < length names = slice_get_within names 45 _ (begins 45 _ refl) in omega (arith, within)

@@ -1,0 +1,300 @@
+//! The first fault of the forms of a source.
+
+ghost use Rattle.std.specs.Prelude.{◌≡◌, ◌≤◌, is_some};
+ghost use Rattle.ql_base.specs.Refusal.{least, first_of};
+ghost use Rattle.ql_forms.specs.Form.{operation_in, place_of};
+ghost use Rattle.ql_forms.specs.View.{form_of, forms_of};
+ghost use Rattle.ql_expand.specs.ExpandFault.{misshapen, variable_faults, function_faults, is_marked, parameter_faults, parameters_faults, form_faults, forms_faults, bind_faults, binds_faults, clause_faults, clauses_faults, source_faults};
+ghost use Rattle.ql_expand.specs.Expands.{binders_in};
+ghost use Rattle.ql_expand.specs.Operator.{operator_of};
+ghost use Rattle.ql_expand.specs.Parts.{split_of};
+ghost use Rattle.ql_expand.specs.Searching.{top_faults, split_faults, operation_faults, symbols_faults};
+
+use crate::level::{DEEPEST, level_below};
+use crate::operator::{Operator, Reading, operator_of};
+use crate::parts::{Parts, bind_of, clause_of, read};
+use ql_base::names::Names;
+use ql_base::numbers::Offset;
+use ql_base::refusal::{Fault, FaultKind, find, find_if};
+use ql_forms::form::{Form, Symbol};
+use ql_forms::text::Text;
+
+/// The first fault of the forms of a source.
+pub fn find_fault(text: &Text) -> Option<Fault>
+    ensures { result ≡ least (source_faults text.now.names (forms_of text.now.forms)) }
+{
+    let mut search = Search {
+        names: &text.names,
+        first: None,
+    };
+    search.tops(text.forms.as_slice());
+    search.first
+}
+
+// Whether `&` comes first.
+fn is_marked(letters: &[u8]) -> bool
+    ensures { result ≡ is_marked letters.now }
+{
+    match letters {
+        [] => false,
+        [first, ..] => *first == b'&',
+    }
+}
+
+// Whether each of these is a symbol.
+fn are_symbols(forms: &[Form]) -> bool
+    ensures { result ≡ is_some (binders_in (forms_of forms.now)) }
+{
+    for form in forms {
+        if form.symbol().is_none() {
+            return false;
+        }
+    }
+    true
+}
+
+// How far the search has come.
+#[derive(Drop)]
+struct Search<'a> {
+    names: &'a Names,
+    first: Option<Fault>,
+}
+
+impl<'a> Search<'a> {
+    fn bad_shape(&mut self, at: Offset)
+        ensures first { self.new.first ≡ first_of self.old.first (misshapen at.0) }
+        ensures names { self.new.names ≡ self.old.names }
+    {
+        find(&mut self.first, FaultKind::BadShape, at);
+    }
+
+    // The name of a variable.
+    fn variable(&mut self, symbol: Symbol)
+        ensures first { self.new.first ≡ first_of self.old.first (variable_faults symbol.at.0 symbol.number) }
+        ensures names { self.new.names ≡ self.old.names }
+    {
+        let is_constant = matches!(operator_of(symbol.number), Operator::Constant);
+        find_if(
+            &mut self.first,
+            is_constant,
+            FaultKind::ReservedName,
+            symbol.at,
+        );
+    }
+
+    // The name of a function.
+    fn function(&mut self, symbol: Symbol)
+        ensures first { self.new.first ≡ first_of self.old.first (function_faults symbol.at.0 symbol.number) }
+        ensures names { self.new.names ≡ self.old.names }
+    {
+        let is_call = matches!(operator_of(symbol.number), Operator::Call);
+        find_if(
+            &mut self.first,
+            !is_call,
+            FaultKind::ReservedName,
+            symbol.at,
+        );
+    }
+
+    fn parameter(&mut self, symbol: Symbol)
+        ensures first { self.new.first ≡ first_of self.old.first (parameter_faults self.old.names.now symbol.at.0 symbol.number) }
+        ensures names { self.new.names ≡ self.old.names }
+    {
+        if is_marked(self.names.letters(symbol.number)) {
+            self.bad_shape(symbol.at);
+        } else {
+            self.variable(symbol);
+        }
+    }
+
+    // A parameter list.
+    #[tactic(auto, using(crate::proofs::Splits::symbols_in))]
+    fn parameters(&mut self, params: &Form)
+        ensures first { self.new.first ≡ first_of self.old.first (parameters_faults self.old.names.now (form_of params.now)) }
+        ensures names { self.new.names ≡ self.old.names }
+    {
+        match params.items() {
+            Some(items) if are_symbols(items) => self.symbols(items),
+            _ => self.bad_shape(params.offset()),
+        }
+    }
+
+    // The symbols among these as parameters.
+    fn symbols(&mut self, forms: &[Form])
+        ensures first { self.new.first ≡ first_of self.old.first (symbols_faults self.old.names.now (forms_of forms.now)) }
+        ensures names { self.new.names ≡ self.old.names }
+    {
+        for form in forms {
+            if let Some(symbol) = form.symbol() {
+                self.parameter(symbol);
+            }
+        }
+    }
+
+    // A definition that is no top form.
+    fn definition(&mut self, top: bool, at: Offset, reading: Reading)
+        ensures first { self.new.first ≡ first_of self.old.first (top_faults top at.0 reading) }
+        ensures names { self.new.names ≡ self.old.names }
+    {
+        if let Reading::Global | Reading::Definition = reading {
+            find_if(&mut self.first, !top, FaultKind::BadTop, at);
+        }
+    }
+
+    #[tactic(auto, using(ql_base::specs::Refusal::first_appended, crate::proofs::Counts::rest))]
+    fn tops(&mut self, forms: &[Form])
+        ensures first { self.new.first ≡ first_of self.old.first (source_faults self.old.names.now (forms_of forms.now)) }
+        ensures names { self.new.names ≡ self.old.names }
+    {
+        for form in forms {
+            self.form(true, 1, form);
+        }
+    }
+
+    #[cycle(search)]
+    #[tactic(auto, using(crate::proofs::Splits::shallow_form))]
+    fn form(&mut self, top: bool, level: u128, form: &Form)
+        ensures first { self.new.first ≡ first_of self.old.first (form_faults self.old.names.now top level (form_of form.now)) }
+        ensures names { self.new.names ≡ self.old.names }
+    {
+        if level > DEEPEST {
+            self.bad_shape(form.offset());
+        } else if !form.is_atom() {
+            self.list(top, level, form);
+        }
+    }
+
+    // A list that isn't too deep.
+    #[cycle(search)]
+    #[tactic(auto, using(ql_base::specs::Refusal::first_appended))]
+    fn list(&mut self, top: bool, level: u128, form: &Form)
+        requires { level ≤ 400 }
+        ensures first { self.new.first ≡ first_of self.old.first (operation_faults self.old.names.now top level (place_of (form_of form.now)) (operation_in (form_of form.now))) }
+        ensures names { self.new.names ≡ self.old.names }
+    {
+        let at = form.offset();
+        let Some((head, parts)) = form.operation() else {
+            self.bad_shape(at);
+            return;
+        };
+        let reading = operator_of(head.number).reading();
+        self.definition(top, at, reading);
+        self.parts(level_below(reading, level, parts), at, read(reading, parts));
+    }
+
+    #[cycle(search)]
+    #[tactic(auto, using(ql_base::specs::Refusal::first_appended))]
+    fn parts(&mut self, level: u128, at: Offset, parts: Parts)
+        ensures first { self.new.first ≡ first_of self.old.first (split_faults self.old.names.now level at.0 (split_of parts.entry)) }
+        ensures names { self.new.names ≡ self.old.names }
+    {
+        match parts {
+            Parts::Misshapen => self.bad_shape(at),
+            Parts::Datum(_) => {}
+            Parts::Forms(forms) => self.forms(level, forms),
+            Parts::Assignment { variable, value } => {
+                self.variable(variable);
+                self.form(false, level, value);
+            }
+            Parts::Bindings { binds, body } => {
+                self.binds(level, binds);
+                self.forms(level, body);
+            }
+            Parts::FormAndBindings { form, binds, body } => {
+                self.form(false, level, form);
+                self.binds(level, binds);
+                self.forms(level, body);
+            }
+            Parts::Parameters { params, body } => {
+                self.parameters(params);
+                self.forms(level, body);
+            }
+            Parts::FormAndParameters { form, params, body } => {
+                self.form(false, level, form);
+                self.parameters(params);
+                self.forms(level, body);
+            }
+            Parts::Definition { name, params, body } => {
+                self.function(name);
+                self.parameters(params);
+                self.forms(level, body);
+            }
+            Parts::Clauses(clauses) => self.clauses(level, clauses),
+        }
+    }
+
+    #[cycle(search)]
+    #[tactic(auto, using(ql_base::specs::Refusal::first_appended, crate::proofs::Counts::rest))]
+    fn forms(&mut self, level: u128, forms: &[Form])
+        ensures first { self.new.first ≡ first_of self.old.first (forms_faults self.old.names.now level (forms_of forms.now)) }
+        ensures names { self.new.names ≡ self.old.names }
+    {
+        for form in forms {
+            self.form(false, level, form);
+        }
+    }
+
+    // A binding, whose value is one level further.
+    #[cycle(search)]
+    #[tactic(auto, using(ql_base::specs::Refusal::first_appended, crate::proofs::Splits::shallow_bind))]
+    fn bind(&mut self, level: u128, bind: &Form)
+        ensures first { self.new.first ≡ first_of self.old.first (bind_faults self.old.names.now level (form_of bind.now)) }
+        ensures names { self.new.names ≡ self.old.names }
+    {
+        let at = bind.offset();
+        if level > DEEPEST {
+            self.bad_shape(at);
+            return;
+        }
+        let Some(bound) = bind_of(bind) else {
+            self.bad_shape(at);
+            return;
+        };
+        self.variable(bound.variable);
+        if let Some(value) = bound.value {
+            self.form(false, level + 1, value);
+        }
+    }
+
+    #[cycle(search)]
+    #[tactic(auto, using(ql_base::specs::Refusal::first_appended, crate::proofs::Counts::rest))]
+    fn binds(&mut self, level: u128, binds: &[Form])
+        ensures first { self.new.first ≡ first_of self.old.first (binds_faults self.old.names.now level (forms_of binds.now)) }
+        ensures names { self.new.names ≡ self.old.names }
+    {
+        for bind in binds {
+            self.bind(level, bind);
+        }
+    }
+
+    // A clause, whose forms are one level further.
+    #[cycle(search)]
+    #[tactic(auto, using(ql_base::specs::Refusal::first_appended, crate::proofs::Splits::shallow_clause))]
+    fn clause(&mut self, level: u128, clause: &Form)
+        ensures first { self.new.first ≡ first_of self.old.first (clause_faults self.old.names.now level (form_of clause.now)) }
+        ensures names { self.new.names ≡ self.old.names }
+    {
+        let at = clause.offset();
+        if level > DEEPEST {
+            self.bad_shape(at);
+            return;
+        }
+        let Some((test, others)) = clause_of(clause) else {
+            self.bad_shape(at);
+            return;
+        };
+        self.form(false, level + 1, test);
+        self.forms(level + 1, others);
+    }
+
+    #[cycle(search)]
+    #[tactic(auto, using(ql_base::specs::Refusal::first_appended, crate::proofs::Counts::rest))]
+    fn clauses(&mut self, level: u128, clauses: &[Form])
+        ensures first { self.new.first ≡ first_of self.old.first (clauses_faults self.old.names.now level (forms_of clauses.now)) }
+        ensures names { self.new.names ≡ self.old.names }
+    {
+        for clause in clauses {
+            self.clause(level, clause);
+        }
+    }
+}

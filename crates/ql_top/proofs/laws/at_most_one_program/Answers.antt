@@ -1,0 +1,5 @@
+use Rattle.ql_top.proofs.Refusals.{same_program}
+use Rattle.ql_top.proofs.laws.at_most_one_program.Goals as goal
+
+pub returns : goal.returns
+returns c = same_program c.spells_at_most_one.ensures c.numbered_names_are_distinct.ensures c.numbered_at_most_one.ensures c.expands_to_at_most_one.ensures
