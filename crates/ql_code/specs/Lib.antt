@@ -1,0 +1,10 @@
+pub mod Code
+pub mod Listing
+pub mod LocalLaws
+pub mod LocalPath
+pub mod Machine
+pub mod Reached
+pub mod Sound
+pub mod SoundWorld
+pub mod Standing
+pub mod Walk

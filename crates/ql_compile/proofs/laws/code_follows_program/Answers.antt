@@ -1,0 +1,6 @@
+use Rattle.ql_compile.proofs.Allowed.{can_be_compiled}
+use Rattle.ql_compile.proofs.Simulation.{always_same}
+use Rattle.ql_compile.proofs.laws.code_follows_program.Goals as goal
+
+pub returns : goal.returns
+returns c = λ p h. always_same p (can_be_compiled p h)

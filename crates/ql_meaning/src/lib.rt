@@ -1,0 +1,4 @@
+//! What a program means: control and frames over its core.
+#![tactic(auto)]
+
+pub mod laws;

@@ -1,0 +1,14 @@
+pub mod Event
+pub mod Idle
+pub mod Machine
+pub mod Operator
+pub mod Parts
+pub mod Row
+pub mod Run
+pub mod Short
+pub mod Text
+pub mod Tick
+pub mod Touch
+pub mod Within
+pub mod Word
+pub mod World
