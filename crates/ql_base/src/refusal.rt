@@ -5,8 +5,9 @@ ghost use Rattle.ql_base.specs.Refusal.{number_of, fault, sooner, first_of, wher
 
 use crate::numbers::Offset;
 
-/// What is wrong with a source. The kinds stand in the order of their numbers, from 1: first those of
-/// its text, then those of its forms, then those of the names in its program.
+/// What is wrong with a source. The kinds stand in the order of their numbers: first those of its
+/// text, then those of its forms, then those of the names in its program, then that of its code. No
+/// kind has the number 16.
 #[derive(Clone, Copy, Debug, PartialEq, Eq)]
 pub enum FaultKind {
     /// A byte that stands only in comments.
@@ -39,12 +40,12 @@ pub enum FaultKind {
     Twice,
     /// A call with a wrong number of arguments.
     WrongCount,
-    /// A form that can't stand in a cleanup.
-    BadCleanup,
     /// A binder with the name of a global.
     Shadow,
     /// One more than a list can have.
     TooMany,
+    /// More than 65,535 instructions.
+    CodeTooLong,
 }
 
 impl FaultKind {
@@ -68,9 +69,9 @@ impl FaultKind {
             FaultKind::NoFunction => 13,
             FaultKind::Twice => 14,
             FaultKind::WrongCount => 15,
-            FaultKind::BadCleanup => 16,
             FaultKind::Shadow => 17,
             FaultKind::TooMany => 18,
+            FaultKind::CodeTooLong => 19,
         }
     }
 }

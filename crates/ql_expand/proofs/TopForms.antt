@@ -4,7 +4,7 @@ use Rattle.std.specs.Prelude.{if◌then◌else◌, ◌||◌, ◌&&◌, ◌==◌,
 use Rattle.std.proofs.lemmas.List.{append-nil}
 use Rattle.std.proofs.lemmas.Option.{slice_get_within}
 use Rattle.ql_base.specs.Names.{BeginsWithReserved}
-use Rattle.ql_base.specs.Refusal.{first_of, least, number_of}
+use Rattle.ql_base.specs.Refusal.{first_of}
 use Rattle.ql_base.specs.declared.refusal.Fault.{Fault}
 use Rattle.ql_forms.specs.Form.{Form as Datum, Forms, none, more, atom, list, Tail, proper, dotted, symbol, integer, operation_in, place_of}
 use Rattle.ql_forms.specs.View.{form_of, forms_of}
@@ -28,21 +28,6 @@ use Rattle.ql_expand.specs.declared.top.Tops.{Tops}
 use Rattle.ql_expand.proofs.Fine.{neither, undeep, fine_split}
 use Rattle.ql_expand.proofs.Splits.{form_is}
 use Rattle.ql_expand.proofs.Weights.{drop_at, drop_all}
-
-pick : (b : Bool) (f g : Fault) → (k : Fault) × ((if b then Some g else Some f) ≡ Some k)
-pick true f g = (g, refl)
-pick false f g = (f, refl)
-
-some_stays : (f : Fault) (gs : List Fault) → first_of (Some f) gs ≡ None → ⊥
-some_stays f [] h = cc
-some_stays f (g ∷ gs) h =
-    let p = pick (ltb g.at.0 f.at.0 || (g.at.0 == f.at.0 && ltb (number_of g.kind) (number_of f.kind))) f g in
-    some_stays p.0 gs (ap (λ z. first_of z gs) (sym p.1) ∙ h)
-
--- Where no fault is the first, there is none.
-pub none_found : (gs : List Fault) → least gs ≡ None → gs ≡ []
-none_found [] h = refl
-none_found (g ∷ gs) h = absurd (some_stays g gs h)
 
 -- one core more
 pub pushed : (xs : List Core) (x : Core) (cs : Cores) → joined_cores (cores_of (xs ++ x ∷ [])) cs ≡ joined_cores (cores_of xs) (and_core (core_of x) cs)

@@ -3,7 +3,7 @@ use Rattle.std.proofs.Common.{◌≡◌, ℕ, ◌+◌, suc, ◌<◌, List, [], �
 use Rattle.std.specs.Prelude.{Result, OnOk}
 use Rattle.std.proofs.lemmas.List.{take_more, map-append}
 use Rattle.std.proofs.lemmas.Result.{on_ok_weaker}
-use Rattle.ql_base.specs.Refusal.{first_of, first_appended, least, number_of}
+use Rattle.ql_base.specs.Refusal.{first_of, first_appended}
 use Rattle.ql_base.specs.declared.refusal.Fault.{Fault}
 use Rattle.ql_expand.specs.Core.{Binder, Core, Cores, Function, lambda, program}
 use Rattle.ql_scope.specs.Scope.{core_faults, cores_faults, functions_faults, head_of, program_faults, repeated_functions, repeated_globals, top, node_faults, list_faults, binder_faults, binders_faults, names_at, name_at, under}
@@ -102,18 +102,3 @@ map_more F xs i x h e = ap (map F) (take_more xs i x h) ∙ (map-append F (take 
 
 pub drop_is : {X : Type 0} (xs : List X) (i : ℕ) (x : X) → i < length xs → x ≡ get_or xs i x → drop i xs ≡ x ∷ drop (i + 1) xs
 drop_is xs i x h e = rw (add-one, drop-cons xs i x) (ap (λ y. y ∷ drop (suc i) xs) (sym e))
-
-pick : (b : Bool) (f g : Fault) → (k : Fault) × ((if b then Some g else Some f) ≡ Some k)
-pick true f g = (g, refl)
-pick false f g = (f, refl)
-
-some_stays : (f : Fault) (gs : List Fault) → first_of (Some f) gs ≡ None → ⊥
-some_stays f [] h = cc
-some_stays f (g ∷ gs) h =
-    let p = pick (ltb g.at.0 f.at.0 || (g.at.0 == f.at.0 && ltb (number_of g.kind) (number_of f.kind))) f g in
-    some_stays p.0 gs (ap (λ z. first_of z gs) (sym p.1) ∙ h)
-
--- Where no fault is the first, there is none.
-pub none_found : (gs : List Fault) → least gs ≡ None → gs ≡ []
-none_found [] h = refl
-none_found (g ∷ gs) h = absurd (some_stays g gs h)

@@ -1,7 +1,7 @@
 use Rattle.std.proofs.Common.{sym, ◌∙◌}
 use Rattle.ql_forms.specs.View.{forms_of}
 use Rattle.ql_expand.specs.ExpandFault.{source_faults}
-use Rattle.ql_expand.proofs.TopForms.{none_found}
+use Rattle.ql_base.specs.Refusal.{none_found}
 use Rattle.ql_expand.proofs.expand.expand.Goals as goal
 
 pub program_of_text-requires : goal.program_of_text-requires

@@ -2,7 +2,7 @@ use Rattle.std.proofs.Common.{◌∙◌, sym}
 use Rattle.ql_expand.specs.ProgramView.{program_of}
 use Rattle.ql_scope.specs.Scope.{program_faults}
 use Rattle.ql_scope.specs.Scoped.{HasScope}
-use Rattle.ql_scope.proofs.Added.{none_found}
+use Rattle.ql_base.specs.Refusal.{none_found}
 use Rattle.ql_scope.proofs.check.check.Goals as goal
 
 pub returns-clause-in_scope : goal.returns-clause-in_scope
