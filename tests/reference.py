@@ -20,7 +20,7 @@ ROWS = os.path.join(TOP, "tests", "rows.txt")
 ALPHABET = b"()'.;a1- \n"
 
 KINDS = ("badbyte strayclose baddot badnumber longname toodeep toolong unfinished badshape badtop reservedname unbound "
-         "nofunction twice wrongcount badcleanup shadow toomany").split()
+         "nofunction twice wrongcount shadow toomany").split()
 RESERVED = ("nil t quote eager defun defvar lambda qlambda setq if progn let qlet catch qcatch throw unwind-protect funcall "
             "print cons car cdr eq null not atom consp numberp symbolp + - * truncate rem = < > <= >= cond and or when unless "
             "let* list").split()
@@ -406,9 +406,6 @@ def program(forms):
 
 # Scope. The binders above a place are listed from the innermost on, each as (offset, name).
 
-CLEANING = ("const", "var", "setq", "if", "progn", "let", "prim", "print")
-
-
 class Scope:
     def __init__(self, functions, globals_):
         self.faults, self.stored, self.globals = [], set(), set(globals_)
@@ -438,18 +435,16 @@ class Scope:
                 self.found(at, "shadow")
             seen.add(name)
 
-    def all(self, cores, above, cleanup):
+    def all(self, cores, above):
         for one in cores:
-            self.core(one, above, cleanup)
+            self.core(one, above)
 
-    def under(self, binders, inside, above, cleanup):
+    def under(self, binders, inside, above):
         self.binders(binders)
-        self.core(inside, list(reversed(binders)) + above, cleanup)
+        self.core(inside, list(reversed(binders)) + above)
 
-    def core(self, node, above, cleanup):
+    def core(self, node, above):
         kind, at = node[0], node[1]
-        if cleanup and kind not in CLEANING:
-            self.found(at, "badcleanup")
         if kind == "var":
             self.used(node[2], at, above)
         elif kind == "setq":
@@ -458,40 +453,37 @@ class Scope:
                 if binder[1] == node[2]:
                     self.stored.add(binder)
                     break
-            self.core(node[4], above, cleanup)
-        elif kind in ("if", "catch", "qcatch", "throw"):
-            self.all(node[2:], above, cleanup)
-        elif kind == "protect":
-            self.core(node[2], above, cleanup)
-            self.core(node[3], above, True)
+            self.core(node[4], above)
+        elif kind in ("if", "catch", "qcatch", "throw", "protect"):
+            self.all(node[2:], above)
         elif kind in ("progn", "print"):
-            self.all(node[2] if kind == "progn" else node[2:], above, cleanup)
+            self.all(node[2] if kind == "progn" else node[2:], above)
         elif kind == "prim":
-            self.all(node[3], above, cleanup)
+            self.all(node[3], above)
         elif kind == "call":
             if node[2] not in self.functions:
                 self.found(node[3], "nofunction")
             elif self.functions[node[2]] != len(node[4]):
                 self.found(node[3], "wrongcount")
-            self.all(node[4], above, cleanup)
+            self.all(node[4], above)
         elif kind in ("funcall", "ignored funcall"):
-            self.core(node[2], above, cleanup)
+            self.core(node[2], above)
             if len(node[3]) > 16:
                 self.found(node[3][16][1], "toomany")
-            self.all(node[3], above, cleanup)
+            self.all(node[3], above)
         elif kind == "lambda":
-            self.under(node[2], node[3], above, cleanup)
+            self.under(node[2], node[3], above)
         elif kind == "qlambda":
-            self.core(node[2], above, cleanup)
-            self.under(node[3], node[4], above, cleanup)
+            self.core(node[2], above)
+            self.under(node[3], node[4], above)
         elif kind in ("let", "qlet"):
             if kind == "qlet":
-                self.core(node[2], above, cleanup)
+                self.core(node[2], above)
             binds, inside = node[-2:]
-            self.all([value for _, value in binds], above, cleanup)
-            self.under([binder for binder, _ in binds], inside, above, cleanup)
+            self.all([value for _, value in binds], above)
+            self.under([binder for binder, _ in binds], inside, above)
         elif kind == "defvar":
-            self.core(node[4], above, cleanup)
+            self.core(node[4], above)
 
 
 def scope(functions, globals_, tops):
@@ -503,8 +495,8 @@ def scope(functions, globals_, tops):
                 checked.found(top[3], "twice")
             seen.add(top[2])
     for _, _, _, params, inside in functions:
-        checked.under(params, inside, [], False)
-    checked.all(tops, [], False)
+        checked.under(params, inside, [])
+    checked.all(tops, [])
     return checked
 
 

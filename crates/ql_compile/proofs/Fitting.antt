@@ -7,7 +7,7 @@ use Rattle.ql_base.specs.declared.refusal.Fault.{Fault}
 use Rattle.ql_base.specs.declared.refusal.FaultKind.TheVariants.{TooMany}
 use Rattle.ql_expand.specs.Core.{Binder, Core, core, Node, constant, variable, setq, conditional, progn, binding, primitive, print, call, funcall, lambda, qlet, qlambda, catch, qcatch, throw, protect, defvar, Cores, no_cores, and_core, Bounds, no_bounds, and_bound, Function, function, Program, program}
 use Rattle.ql_expand.specs.Primitives.{count_of}
-use Rattle.ql_scope.specs.Scope.{Place, offset_of, core_at, name_at, binders_in, under, in_cleanup, use_faults, count_faults, parameter_count, called_faults, binder_faults, binders_faults, list_faults, cleanup_faults, seventeenth_faults, core_faults, node_faults, cores_faults, arguments_faults, values_faults, functions_faults, top, InScope, repeated_functions, repeated_globals}
+use Rattle.ql_scope.specs.Scope.{Place, offset_of, core_at, name_at, binders_in, under, use_faults, count_faults, parameter_count, called_faults, binder_faults, binders_faults, list_faults, seventeenth_faults, core_faults, node_faults, cores_faults, arguments_faults, values_faults, functions_faults, top, InScope, repeated_functions, repeated_globals}
 use Rattle.ql_compile.specs.Compile.{count}
 use Rattle.ql_compile.proofs.Sized.{is_named, is_sized, is_sized_node, are_sized, are_sized_values, is_sized_top, are_sized_tops, are_sized_functions, is_sized_program}
 use Rattle.ql_compile.proofs.Assigns.{assigns, node_assigns, all_assign, values_assign, top_assigns, tops_assign, functions_assign, program_assigns}
@@ -69,7 +69,7 @@ arguments_few p cs h = let k : 0 + count cs ≤ 16 = few p 0 cs (omega arith) h 
 
 mutual
   sized : (p : Place) (c : Core) → core_faults p c ≡ [] → Goes (assigns c) (is_sized c)
-  sized p (core at n) h = sized_node p at n (right (cleanup_faults p at n) (node_faults p at n) h)
+  sized p (core at n) h = sized_node p at n h
 
   sized_node : (p : Place) (at : ℕ) (n : Node) → node_faults p at n ≡ [] → Goes (node_assigns n) (is_sized_node n)
   sized_node p at (constant f) h = λ a. refl
@@ -108,7 +108,7 @@ mutual
   sized_node p at (catch a b) h = both _ _ _ _ (sized p a (left (core_faults p a) (core_faults p b) h)) (sized p b (right (core_faults p a) (core_faults p b) h))
   sized_node p at (qcatch a b) h = both _ _ _ _ (sized p a (left (core_faults p a) (core_faults p b) h)) (sized p b (right (core_faults p a) (core_faults p b) h))
   sized_node p at (throw a b) h = both _ _ _ _ (sized p a (left (core_faults p a) (core_faults p b) h)) (sized p b (right (core_faults p a) (core_faults p b) h))
-  sized_node p at (protect a b) h = both _ _ _ _ (sized p a (left (core_faults p a) (core_faults (in_cleanup p) b) h)) (sized (in_cleanup p) b (right (core_faults p a) (core_faults (in_cleanup p) b) h))
+  sized_node p at (protect a b) h = both _ _ _ _ (sized p a (left (core_faults p a) (core_faults p b) h)) (sized p b (right (core_faults p a) (core_faults p b) h))
   sized_node p at (defvar w o c) h = λ a. absurd cc
 
   all_sized : (p : Place) (cs : Cores) → cores_faults p cs ≡ [] → Goes (all_assign cs) (are_sized cs)
@@ -126,7 +126,7 @@ mutual
   values_sized p (and_bound b c bs) h = both _ _ _ _ (sized p c (left (core_faults p c) (values_faults p bs) h)) (values_sized p bs (right (core_faults p c) (values_faults p bs) h))
 
 top_sized : (p : Place) (c : Core) → core_faults p c ≡ [] → Goes (top_assigns c) (is_sized_top c)
-top_sized p (core at (defvar w o c)) h = sized p c (right (cleanup_faults p at (defvar w o c)) (core_faults p c) h)
+top_sized p (core at (defvar w o c)) h = sized p c h
 top_sized p (core at (constant f)) h = sized p (core at (constant f)) h
 top_sized p (core at (variable y)) h = sized p (core at (variable y)) h
 top_sized p (core at (setq y o c)) h = sized p (core at (setq y o c)) h

@@ -18,7 +18,7 @@ use ql_scope::scoped::Scoped;
 use std::alloc::{AllocError, Global};
 use std::io::{self, Read, Write};
 
-/// The names of the kinds of faults, from kind 1 on.
+/// The names of the kinds of faults, from kind 1 on. No kind has the number 16.
 const KINDS: [&str; 18] = [
     "badbyte",
     "strayclose",
@@ -35,7 +35,7 @@ const KINDS: [&str; 18] = [
     "nofunction",
     "twice",
     "wrongcount",
-    "badcleanup",
+    "none",
     "shadow",
     "toomany",
 ];

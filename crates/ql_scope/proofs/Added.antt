@@ -1,9 +1,9 @@
 -- Stretches of a walk, one after another.
-use Rattle.std.proofs.Common.{◌≡◌, ℕ, ◌+◌, suc, ◌<◌, List, [], ◌∷◌, ◌++◌, length, take, drop, map, append-nil, length-append, Option, Some, None, refl, ap, sym, ◌∙◌, get_or, add-one, drop-cons, append_assoc, Bool, true, false, if◌then◌else◌, ◌||◌, ◌&&◌, ◌==◌, ltb}
+use Rattle.std.proofs.Common.{◌≡◌, ℕ, ◌+◌, suc, ◌<◌, List, [], ◌∷◌, ◌++◌, length, take, drop, map, append-nil, length-append, Option, None, refl, ap, sym, ◌∙◌, get_or, add-one, drop-cons, append_assoc}
 use Rattle.std.specs.Prelude.{Result, OnOk}
 use Rattle.std.proofs.lemmas.List.{take_more, map-append}
 use Rattle.std.proofs.lemmas.Result.{on_ok_weaker}
-use Rattle.ql_base.specs.Refusal.{first_of, first_appended}
+use Rattle.ql_base.specs.Refusal.{first_of, first_appended, least}
 use Rattle.ql_base.specs.declared.refusal.Fault.{Fault}
 use Rattle.ql_expand.specs.Core.{Binder, Core, Cores, Function, lambda, program}
 use Rattle.ql_scope.specs.Scope.{core_faults, cores_faults, functions_faults, head_of, program_faults, repeated_functions, repeated_globals, top, node_faults, list_faults, binder_faults, binders_faults, names_at, name_at, under}
@@ -30,18 +30,18 @@ abbrev with_row : Seen → List Binder → Seen
 with_row s bs = record s { row = bs }
 
 -- A body under binders.
-pub under_binders : (bs : List Binder) (body : Core) (cleanup : Bool) (a b c d : Walk)
-    → b.first ≡ first_of a.first (list_faults (place_in a.seen false) bs) → b.stored ≡ a.stored → b.seen ≡ seen_under bs a.seen
-    → Adds b c (λ s. core_faults (place_in s cleanup) body) (λ s. stored_in (above s) body)
+pub under_binders : (bs : List Binder) (body : Core) (a b c d : Walk)
+    → b.first ≡ first_of a.first (list_faults (place_in a.seen) bs) → b.stored ≡ a.stored → b.seen ≡ seen_under bs a.seen
+    → Adds b c (λ s. core_faults (place_in s) body) (λ s. stored_in (above s) body)
     → d ≡ record c { seen = record c.seen { row = take (length a.seen.row) c.seen.row } }
-    → Adds a d (λ s. node_faults (place_in s cleanup) 0 (lambda bs body)) (λ s. stored_in_node (above s) (lambda bs body))
-under_binders bs body cleanup a b c d first stored seen x left =
+    → Adds a d (λ s. node_faults (place_in s) 0 (lambda bs body)) (λ s. stored_in_node (above s) (lambda bs body))
+under_binders bs body a b c d first stored seen x left =
     let inner : c.seen ≡ seen_under bs a.seen = x.seen ∙ seen in
     record {
-      first = ap (λ w. w.first) left ∙ (x.first ∙ (ap (λ s. first_of b.first (core_faults (place_in s cleanup) body)) seen
-          ∙ (ap (λ ns. first_of b.first (core_faults (record (place_in a.seen cleanup) { variables = ns }) body)) (names_append a.seen.row bs)
-          ∙ (ap (λ f. first_of f (core_faults (under bs (place_in a.seen cleanup)) body)) first
-          ∙ sym (first_appended a.first (list_faults (place_in a.seen cleanup) bs) (core_faults (under bs (place_in a.seen cleanup)) body))))));
+      first = ap (λ w. w.first) left ∙ (x.first ∙ (ap (λ s. first_of b.first (core_faults (place_in s) body)) seen
+          ∙ (ap (λ ns. first_of b.first (core_faults (record (place_in a.seen) { variables = ns }) body)) (names_append a.seen.row bs)
+          ∙ (ap (λ f. first_of f (core_faults (under bs (place_in a.seen)) body)) first
+          ∙ sym (first_appended a.first (list_faults (place_in a.seen) bs) (core_faults (under bs (place_in a.seen)) body))))));
       stored = ap (λ w. w.stored) left ∙ (x.stored ∙ (ap (λ s. with_binders b.stored (stored_in (above s) body)) seen
           ∙ (ap (λ up. with_binders b.stored (stored_in up body)) (inside_append a.seen.row bs []) ∙ ap (λ st. with_binders st (stored_in (inside bs (above a.seen)) body)) stored)));
       seen = ap (λ w. w.seen) left ∙ (ap (λ s. with_row s (take (length a.seen.row) s.row)) inner ∙ ap (with_row a.seen) (back a.seen.row bs));
@@ -85,13 +85,13 @@ name_one f g h old new names faults rest found more whole =
 pub whole_is : (fs : List Function) (globals : List ℕ) (cs : Cores) (e f : Option Fault) (a b c : Walk)
     → e ≡ first_of None (repeated_functions [] fs) → f ≡ first_of e (repeated_globals [] cs)
     → a ≡ record { seen = record { functions = map head_of fs; globals = globals; row = [] }; first = f; stored = [] }
-    → Adds a b (λ s. functions_faults (place_in s false) fs) (λ s. stored_in_functions fs)
-    → Adds b c (λ s. cores_faults (place_in s false) cs) (λ s. stored_in_cores (above s) cs)
+    → Adds a b (λ s. functions_faults (place_in s) fs) (λ s. stored_in_functions fs)
+    → Adds b c (λ s. cores_faults (place_in s) cs) (λ s. stored_in_cores (above s) cs)
     → (c.first ≡ least (program_faults (program fs globals cs))) × (c.stored ≡ with_binders [] (stored_binders (program fs globals cs)))
 whole_is fs globals cs e f a b c ofs ogs start x y =
-    let z = adds_then a b c (λ s. functions_faults (place_in s false) fs) (λ s. cores_faults (place_in s false) cs) (λ s. stored_in_functions fs) (λ s. stored_in_cores (above s) cs) x y in
+    let z = adds_then a b c (λ s. functions_faults (place_in s) fs) (λ s. cores_faults (place_in s) cs) (λ s. stored_in_functions fs) (λ s. stored_in_cores (above s) cs) x y in
     let rest = functions_faults (top fs globals) fs ++ cores_faults (top fs globals) cs in (
-      z.first ∙ (ap (λ w. first_of w.first (functions_faults (place_in w.seen false) fs ++ cores_faults (place_in w.seen false) cs)) start
+      z.first ∙ (ap (λ w. first_of w.first (functions_faults (place_in w.seen) fs ++ cores_faults (place_in w.seen) cs)) start
           ∙ (ap (λ k. first_of k rest) ogs ∙ (sym (first_appended e (repeated_globals [] cs) rest)
           ∙ (ap (λ k. first_of k (repeated_globals [] cs ++ rest)) ofs ∙ sym (first_appended None (repeated_functions [] fs) (repeated_globals [] cs ++ rest)))))),
       z.stored ∙ ap (λ w. with_binders w.stored (stored_in_functions fs ++ stored_in_cores (above w.seen) cs)) start,

@@ -7,7 +7,7 @@ use Rattle.ql_expand.specs.Core.{Name, named, hidden, Binder, binder, Core, Core
 use Rattle.ql_expand.specs.Expands.{Expands, sugar, or_more, integer_alone, constant_word, quoted, variable_word, assigned, if_then, if_else, sequence, bound, one_operand, two_operands, printed, called, value_called, closed, bound_apart, closed_apart, caught, caught_all, thrown, protected, Body, no_forms, one_form, forms, InTurn, last_form, then_forms, Each, none_left, one_more, Bind, with_value, without_value, alone, Binds, none_bound, one_bound, TopForms, no_tops, top_function, top_global, top_form, ExpandsTo}
 use Rattle.ql_expand.specs.Primitives.{count_of}
 use Rattle.ql_scope.specs.Compilable.{is_bound, is_seen, has_parameters, is_right, are_right, are_right_values, are_right_functions, is_compilable}
-use Rattle.ql_scope.specs.Scope.{Place, is_among, names_at, binders_in, under, in_cleanup, use_faults, count_faults, core_faults, cores_faults, arguments_faults, values_faults, functions_faults, parameter_count, top, InScope}
+use Rattle.ql_scope.specs.Scope.{Place, is_among, names_at, binders_in, under, use_faults, count_faults, core_faults, cores_faults, arguments_faults, values_faults, functions_faults, parameter_count, top, InScope}
 use Rattle.ql_scope.specs.Stored.{inside}
 
 no_first : (xs ys : List Fault) → xs ++ ys ≡ [] → xs ≡ []
@@ -58,7 +58,7 @@ mutual
   right integer_alone above p s h = refl
   right (constant_word k) above p s h = refl
   right (quoted k) above p s h = refl
-  right (variable_word {at = at} {w = w} k) above p s h = seen above p at w s (no_second _ _ h)
+  right (variable_word {at = at} {w = w} k) above p s h = seen above p at w s h
   right (assigned {p = o} {v = v} k x) above p s h = grind (arith, nat_tests, no_first, no_second, seen above p o v s, right x above p s)
   right (if_then k x y) above p s h = grind (arith, nat_tests, no_first, no_second, right x above p s, right y above p s)
   right (if_else k x y z) above p s h = grind (arith, nat_tests, no_first, no_second, right x above p s, right y above p s, right z above p s)
@@ -84,13 +84,13 @@ mutual
   right (caught k x y) above p s h = grind (arith, nat_tests, no_first, no_second, right x above p s, right_body y above p s)
   right (caught_all k x y) above p s h = grind (arith, nat_tests, no_first, no_second, right x above p s, right_body y above p s)
   right (thrown k x y) above p s h = grind (arith, nat_tests, no_first, no_second, right x above p s, right y above p s)
-  right (protected k x y) above p s h = grind (arith, nat_tests, no_first, no_second, right x above p s, right_body y above (in_cleanup p) s)
+  right (protected k x y) above p s h = grind (arith, nat_tests, no_first, no_second, right x above p s, right_body y above p s)
 
   right_body : {at : ℕ} {fs : Forms} {c : Core} → Body at fs c → (above : List Binder) (p : Place) → Sees above p → core_faults p c ≡ []
       → is_right p.functions p.globals above c ≡ true
   right_body no_forms above p s h = refl
   right_body (one_form x) above p s h = right x above p s h
-  right_body (forms m) above p s h = right_turn m above p s (no_second _ _ h)
+  right_body (forms m) above p s h = right_turn m above p s h
 
   right_turn : {fs : Forms} {cs : Cores} → InTurn fs cs → (above : List Binder) (p : Place) → Sees above p → cores_faults p cs ≡ []
       → are_right p.functions p.globals above cs ≡ true

@@ -3,10 +3,10 @@ use Rattle.std.proofs.Common.{◌≡◌, ℕ, ◌+◌, ◌≤◌, ◌==◌, List
 use Rattle.std.specs.Prelude.{Bool, true, false, ◌&&◌, ◌||◌, ltb, if◌then◌else◌}
 use Rattle.ql_base.specs.Refusal.{number_of, fault, first_of, least, told, sooner, unless, where_true}
 use Rattle.ql_base.specs.declared.refusal.Fault.{Fault}
-use Rattle.ql_base.specs.declared.refusal.FaultKind.TheVariants.{Unbound, Twice, WrongCount, BadCleanup, Shadow, TooMany}
+use Rattle.ql_base.specs.declared.refusal.FaultKind.TheVariants.{Unbound, Twice, WrongCount, Shadow, TooMany}
 use Rattle.ql_expand.specs.Core.{Name, named, hidden, Binder, binder, Core, core, Node, constant, variable, setq, conditional, progn, binding, primitive, print, call, funcall, lambda, qlet, qlambda, catch, qcatch, throw, protect, defvar, Cores, no_cores, and_core, Bounds, no_bounds, and_bound, Function, function, Program, program}
 use Rattle.ql_expand.specs.Primitives.{count_of}
-use Rattle.ql_scope.specs.Scope.{most, is_among, Place, parameter_count, name_at, binders_in, under, in_cleanup, use_faults, count_faults, twice_faults, seventeenth_faults, called_faults, offset_of, binder_faults, binders_faults, list_faults, may_clean, cleanup_faults, core_at, core_faults, node_faults, cores_faults, arguments_faults, values_faults, repeated_functions, global_at, repeated_global, repeated_globals, function_faults, functions_faults, top, program_faults, scope_fault}
+use Rattle.ql_scope.specs.Scope.{most, is_among, Place, parameter_count, name_at, binders_in, under, use_faults, count_faults, twice_faults, seventeenth_faults, called_faults, offset_of, binder_faults, binders_faults, list_faults, core_at, core_faults, node_faults, cores_faults, arguments_faults, values_faults, repeated_functions, global_at, repeated_global, repeated_globals, function_faults, functions_faults, top, program_faults, scope_fault}
 
 -- ---- the kinds of faults
 
@@ -82,9 +82,6 @@ binders_kinds globals before n (b ∷ bs) =
 list_kinds : (p : Place) (bs : List Binder) → OfNames (list_faults p bs)
 list_kinds p bs = binders_kinds p.globals [] 0 bs
 
-cleanup_kinds : (p : Place) (at : ℕ) (n : Node) → OfNames (cleanup_faults p at n)
-cleanup_kinds p at n = when p.cleanup (unless (may_clean n) (fault BadCleanup at)) (where_not (may_clean n) (fault BadCleanup at) ((omega arith, omega arith), tt))
-
 -- ---- along a program
 
 -- the binders of one list, and a core under them
@@ -93,7 +90,7 @@ scope_kinds p bs c h = joined (list_faults p bs) (core_faults (under bs p) c) (l
 
 mutual
   core_kinds : (p : Place) (c : Core) → OfNames (core_faults p c)
-  core_kinds p (core at n) = joined (cleanup_faults p at n) (node_faults p at n) (cleanup_kinds p at n) (node_kinds p at n)
+  core_kinds p (core at n) = node_kinds p at n
 
   node_kinds : (p : Place) (at : ℕ) (n : Node) → OfNames (node_faults p at n)
   node_kinds p at (constant f) = tt
@@ -122,7 +119,7 @@ mutual
   node_kinds p at (catch a b) = joined (core_faults p a) (core_faults p b) (core_kinds p a) (core_kinds p b)
   node_kinds p at (qcatch a b) = joined (core_faults p a) (core_faults p b) (core_kinds p a) (core_kinds p b)
   node_kinds p at (throw a b) = joined (core_faults p a) (core_faults p b) (core_kinds p a) (core_kinds p b)
-  node_kinds p at (protect a b) = joined (core_faults p a) (core_faults (in_cleanup p) b) (core_kinds p a) (core_kinds (in_cleanup p) b)
+  node_kinds p at (protect a b) = joined (core_faults p a) (core_faults p b) (core_kinds p a) (core_kinds p b)
   node_kinds p at (defvar w named_at c) = core_kinds p c
 
   cores_kinds : (p : Place) (cs : Cores) → OfNames (cores_faults p cs)

@@ -1,5 +1,5 @@
 -- How far a check of a program has come: these definitions serve proofs alone.
-use Rattle.std.specs.Prelude.{◌≡◌, ℕ, Bool, List, [], ◌∷◌, ◌++◌, Option, if◌then◌else◌}
+use Rattle.std.specs.Prelude.{◌≡◌, ℕ, List, [], ◌∷◌, ◌++◌, Option, if◌then◌else◌}
 use Rattle.ql_base.specs.Refusal.{first_of}
 use Rattle.ql_base.specs.declared.refusal.Fault.{Fault}
 use Rattle.ql_expand.specs.Core.{Binder, binder, named}
@@ -21,9 +21,9 @@ pub record Walk : Type 0 where
   pub first : Option Fault
   pub stored : List Binder
 
--- the place at hand, which may stand in a cleanup
-abbrev pub place_in : Seen → Bool → Place
-place_in s cleanup = record { functions = s.functions; globals = s.globals; variables = names_at s.row; cleanup = cleanup }
+-- the place at hand
+abbrev pub place_in : Seen → Place
+place_in s = record { functions = s.functions; globals = s.globals; variables = names_at s.row }
 
 -- the binders above, from the innermost
 abbrev pub above : Seen → List Binder

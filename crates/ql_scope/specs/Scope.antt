@@ -1,10 +1,10 @@
 -- What is wrong with the names of a program.
-use Rattle.std.specs.Prelude.{◌≡◌, ℕ, ◌+◌, Bool, true, false, ◌||◌, ◌==◌, if◌then◌else◌, List, [], ◌∷◌, ◌++◌, length, map, Option, Some, None}
+use Rattle.std.specs.Prelude.{◌≡◌, ℕ, ◌+◌, Bool, false, ◌||◌, ◌==◌, if◌then◌else◌, List, [], ◌∷◌, ◌++◌, length, map, Option, Some, None}
 use Rattle.ql_expand.specs.Core.{Name, named, hidden, Binder, binder, Core, core, Node, constant, variable, setq, conditional, progn, binding, primitive, print, call, funcall, lambda, qlet, qlambda, catch, qcatch, throw, protect, defvar, Cores, no_cores, and_core, Bounds, no_bounds, and_bound, Function, function, Program, program}
 use Rattle.ql_expand.specs.Primitives.{count_of}
 use Rattle.ql_base.specs.Refusal.{fault, least, told, unless, where_true}
 use Rattle.ql_base.specs.declared.refusal.Fault.{Fault}
-use Rattle.ql_base.specs.declared.refusal.FaultKind.TheVariants.{Unbound, NoFunction, Twice, WrongCount, BadCleanup, Shadow, TooMany}
+use Rattle.ql_base.specs.declared.refusal.FaultKind.TheVariants.{Unbound, NoFunction, Twice, WrongCount, Shadow, TooMany}
 
 -- the most parameters or bindings of one list, and the most arguments of `funcall`
 abbrev pub most : ℕ
@@ -30,8 +30,6 @@ pub record Place : Type 0 where
   pub globals : List ℕ
   -- the names of the binders above the place
   pub variables : List ℕ
-  -- whether it stands in a cleanup
-  pub cleanup : Bool
 
 -- how many parameters the first function of a name has
 abbrev pub parameter_count : List Head → ℕ → Option ℕ
@@ -54,10 +52,6 @@ binders_in (and_bound b c bs) = b ∷ binders_in bs
 -- a place under these binders
 abbrev pub under : List Binder → Place → Place
 under bs p = record p { variables = p.variables ++ names_at bs }
-
--- a place in a cleanup
-abbrev pub in_cleanup : Place → Place
-in_cleanup p = record p { cleanup = true }
 
 -- a use of a variable: a binder above it or a global has its name
 abbrev pub use_faults : Place → ℕ → Name → List Fault
@@ -99,21 +93,6 @@ binders_faults globals before count (b ∷ bs) =
 abbrev pub list_faults : Place → List Binder → List Fault
 list_faults p bs = binders_faults p.globals [] 0 bs
 
--- the forms of which a cleanup is made
-abbrev pub may_clean : Node → Bool
-may_clean (constant f) = true
-may_clean (variable v) = true
-may_clean (setq v at c) = true
-may_clean (conditional a b c) = true
-may_clean (progn cs) = true
-may_clean (binding bs c) = true
-may_clean (primitive o cs) = true
-may_clean (print c) = true
-may_clean _ = false
-
-abbrev pub cleanup_faults : Place → ℕ → Node → List Fault
-cleanup_faults p at n = where_true p.cleanup (unless (may_clean n) (fault BadCleanup at))
-
 -- the offset of a core
 abbrev pub core_at : Core → ℕ
 core_at (core at n) = at
@@ -121,7 +100,7 @@ core_at (core at n) = at
 abbrev mutual
   -- all that is wrong in a core at this place
   pub core_faults : Place → Core → List Fault
-  core_faults p (core at n) = cleanup_faults p at n ++ node_faults p at n
+  core_faults p (core at n) = node_faults p at n
 
   pub node_faults : Place → ℕ → Node → List Fault
   node_faults p at (constant f) = []
@@ -140,7 +119,7 @@ abbrev mutual
   node_faults p at (catch a b) = core_faults p a ++ core_faults p b
   node_faults p at (qcatch a b) = core_faults p a ++ core_faults p b
   node_faults p at (throw a b) = core_faults p a ++ core_faults p b
-  node_faults p at (protect a b) = core_faults p a ++ core_faults (in_cleanup p) b
+  node_faults p at (protect a b) = core_faults p a ++ core_faults p b
   node_faults p at (defvar w named_at c) = core_faults p c
 
   pub cores_faults : Place → Cores → List Fault
@@ -186,7 +165,7 @@ functions_faults p (f ∷ fs) = function_faults p f ++ functions_faults p fs
 
 -- what the top forms and the functions of a program see; the globals are the names of its `defvar` forms
 abbrev pub top : List Function → List ℕ → Place
-top fs globals = record { functions = map head_of fs; globals = globals; variables = []; cleanup = false }
+top fs globals = record { functions = map head_of fs; globals = globals; variables = [] }
 
 -- all that is wrong with the names of a program
 abbrev pub program_faults : Program → List Fault

@@ -19,9 +19,9 @@ use thiserror::Error;
 pub enum ScopeRefusal {
     /// The program is at fault. The kinds: 12 a variable that nothing binds, 13 a call of a function
     /// that isn't there, 14 a name that is given twice, 15 a call with a wrong number of arguments,
-    /// 16 a form that can't stand in a cleanup, 17 a parameter or binding with the name of a global,
-    /// 18 a 17th parameter, binding or argument of `funcall`. `at` is the least offset of a fault,
-    /// and `kind` the lowest one there.
+    /// 17 a parameter or binding with the name of a global, 18 a 17th parameter, binding or argument
+    /// of `funcall`. No kind has the number 16. `at` is the least offset of a fault, and `kind` the
+    /// lowest one there.
     #[error("the program is at fault at byte {at} (kind {kind})")]
     Bad { kind: u8, at: u64 },
     /// There was no memory.
@@ -60,6 +60,6 @@ fn found_in<'a>(alloc: Global, program: &Program<'a>) -> Result<Found, AllocErro
     check_globals(alloc, program.names, &mut first, body)?;
     let mut walk = Walk::new(alloc, program, first)?;
     walk.functions(functions)?;
-    walk.cores(body, false)?;
+    walk.cores(body)?;
     Ok(walk.finish())
 }

@@ -1,5 +1,5 @@
-//! The scope check: whether each name in a program stands for something, and what else the binders,
-//! calls and cleanups of a program must keep to.
+//! The scope check: whether each name in a program stands for something, and what else the binders
+//! and calls of a program must keep to.
 #![tactic(auto)]
 
 mod binder_stack;

@@ -1,13 +1,12 @@
 //! The way through the forms of a program, with the binders above each of them.
 
-ghost use Rattle.std.specs.Prelude.{◌≡◌, ◌≤◌, ◌++◌, ◌∷◌, List, [], false, IfOk, OnOk, length, map, take};
+ghost use Rattle.std.specs.Prelude.{◌≡◌, ◌≤◌, ◌++◌, ◌∷◌, List, [], IfOk, OnOk, length, map, take};
 ghost use Rattle.ql_expand.specs.Core as core;
 ghost use Rattle.ql_expand.specs.Core.{lambda};
 ghost use Rattle.ql_base.specs.Refusal.{fault, first_of, where_true};
 ghost use Rattle.ql_expand.specs.Primitives.{count_of};
 ghost use Rattle.ql_expand.specs.View.{core_of, node_of, cores_of, binder_of, binders_of, bounds_of, name_of, function_of};
-ghost use Rattle.ql_scope.specs.Scope as rules;
-ghost use Rattle.ql_scope.specs.Scope.{core_faults, node_faults, cores_faults, arguments_faults, values_faults, list_faults, binder_faults, use_faults, count_faults, cleanup_faults, functions_faults, binders_in, names_at, head_of, parameter_count};
+ghost use Rattle.ql_scope.specs.Scope.{core_faults, node_faults, cores_faults, arguments_faults, values_faults, list_faults, binder_faults, use_faults, count_faults, functions_faults, binders_in, names_at, head_of, parameter_count};
 ghost use Rattle.ql_scope.specs.Stored.{stored_in, stored_in_node, stored_in_cores, stored_in_values, stored_in_functions, binder_set};
 ghost use Rattle.ql_scope.specs.CheckWalk.{Adds, above, place_in, seen_under, variable_of};
 
@@ -108,26 +107,25 @@ impl<'p, 'a> Walk<'p, 'a> {
     /// Functions, which see no variables but their parameters.
     pub fn functions(&mut self, functions: &[Function<'a>]) -> Result<(), AllocError>
         requires { self.old.seen.row ≡ [] }
-        ensures { OnOk result (Adds self.old self.new (λ s. functions_faults (place_in s false) (map function_of functions.now)) (λ s. stored_in_functions (map function_of functions.now))) }
+        ensures { OnOk result (Adds self.old self.new (λ s. functions_faults (place_in s) (map function_of functions.now)) (λ s. stored_in_functions (map function_of functions.now))) }
     {
         for function in functions {
-            self.under_params(&function.body, function.params.as_slice(), false)?;
+            self.under_params(&function.body, function.params.as_slice())?;
         }
         Ok(())
     }
 
-    /// A core form at the place at hand, which may stand in a cleanup.
+    /// A core form at the place at hand.
     #[cycle(walk)]
-    pub fn core(&mut self, core: &Core<'a>, cleanup: bool) -> Result<(), AllocError>
-        ensures { OnOk result (Adds self.old self.new (λ s. core_faults (place_in s cleanup) (core_of core.now)) (λ s. stored_in (above s) (core_of core.now))) }
+    pub fn core(&mut self, core: &Core<'a>) -> Result<(), AllocError>
+        ensures { OnOk result (Adds self.old self.new (λ s. core_faults (place_in s) (core_of core.now)) (λ s. stored_in (above s) (core_of core.now))) }
     {
-        self.cleanup_form(core, cleanup);
-        self.node(core.at, &core.node, cleanup)
+        self.node(core.at, &core.node)
     }
 
     #[cycle(walk)]
-    fn node(&mut self, at: Offset, node: &Node<'a>, cleanup: bool) -> Result<(), AllocError>
-        ensures { OnOk result (Adds self.old self.new (λ s. node_faults (place_in s cleanup) at.0 (node_of node.now)) (λ s. stored_in_node (above s) (node_of node.now))) }
+    fn node(&mut self, at: Offset, node: &Node<'a>) -> Result<(), AllocError>
+        ensures { OnOk result (Adds self.old self.new (λ s. node_faults (place_in s) at.0 (node_of node.now)) (λ s. stored_in_node (above s) (node_of node.now))) }
     {
         match node {
             Node::Const(_) => Ok(()),
@@ -137,134 +135,119 @@ impl<'p, 'a> Walk<'p, 'a> {
             }
             Node::Setq { name, named, value } => {
                 self.set(*name, *named)?;
-                self.core(value.get(), cleanup)
+                self.core(value.get())
             }
             Node::If { test, then, other } => {
-                self.core(test.get(), cleanup)?;
-                self.core(then.get(), cleanup)?;
-                self.core(other.get(), cleanup)
+                self.core(test.get())?;
+                self.core(then.get())?;
+                self.core(other.get())
             }
-            Node::Progn(forms) => self.cores(forms.as_slice(), cleanup),
+            Node::Progn(forms) => self.cores(forms.as_slice()),
             Node::Let { binds, body } => {
-                self.values(binds.as_slice(), cleanup)?;
-                self.under_variables(body.get(), binds.as_slice(), cleanup)
+                self.values(binds.as_slice())?;
+                self.under_variables(body.get(), binds.as_slice())
             }
-            Node::Prim { args, .. } => self.cores(args.as_slice(), cleanup),
-            Node::Print(form) => self.core(form.get(), cleanup),
+            Node::Prim { args, .. } => self.cores(args.as_slice()),
+            Node::Print(form) => self.core(form.get()),
             Node::Call { name, named, args } => {
                 self.called(*name, *named, args.as_slice());
-                self.cores(args.as_slice(), cleanup)
+                self.cores(args.as_slice())
             }
             Node::Funcall { fun, args, .. } => {
-                self.core(fun.get(), cleanup)?;
-                self.arguments(args.as_slice(), cleanup)
+                self.core(fun.get())?;
+                self.arguments(args.as_slice())
             }
-            Node::Lambda { params, body } => {
-                self.under_params(body.get(), params.as_slice(), cleanup)
-            }
+            Node::Lambda { params, body } => { self.under_params(body.get(), params.as_slice()) }
             Node::Qlet { prop, binds, body } => {
-                self.core(prop.get(), cleanup)?;
-                self.values(binds.as_slice(), cleanup)?;
-                self.under_variables(body.get(), binds.as_slice(), cleanup)
+                self.core(prop.get())?;
+                self.values(binds.as_slice())?;
+                self.under_variables(body.get(), binds.as_slice())
             }
             Node::Qlambda { prop, params, body } => {
-                self.core(prop.get(), cleanup)?;
-                self.under_params(body.get(), params.as_slice(), cleanup)
+                self.core(prop.get())?;
+                self.under_params(body.get(), params.as_slice())
             }
             Node::Catch { tag, body } => {
-                self.core(tag.get(), cleanup)?;
-                self.core(body.get(), cleanup)
+                self.core(tag.get())?;
+                self.core(body.get())
             }
             Node::Qcatch { tag, body } => {
-                self.core(tag.get(), cleanup)?;
-                self.core(body.get(), cleanup)
+                self.core(tag.get())?;
+                self.core(body.get())
             }
             Node::Throw { tag, value } => {
-                self.core(tag.get(), cleanup)?;
-                self.core(value.get(), cleanup)
+                self.core(tag.get())?;
+                self.core(value.get())
             }
-            Node::Protect {
-                value,
-                cleanup: last,
-            } => {
-                self.core(value.get(), cleanup)?;
-                self.core(last.get(), true)
+            Node::Protect { value, cleanup } => {
+                self.core(value.get())?;
+                self.core(cleanup.get())
             }
-            Node::Defvar { value, .. } => self.core(value.get(), cleanup),
+            Node::Defvar { value, .. } => self.core(value.get()),
         }
     }
 
     /// Core forms at the place at hand.
     #[cycle(walk)]
-    pub fn cores(&mut self, cores: &[Core<'a>], cleanup: bool) -> Result<(), AllocError>
-        ensures { OnOk result (Adds self.old self.new (λ s. cores_faults (place_in s cleanup) (cores_of cores.now)) (λ s. stored_in_cores (above s) (cores_of cores.now))) }
+    pub fn cores(&mut self, cores: &[Core<'a>]) -> Result<(), AllocError>
+        ensures { OnOk result (Adds self.old self.new (λ s. cores_faults (place_in s) (cores_of cores.now)) (λ s. stored_in_cores (above s) (cores_of cores.now))) }
     {
         for core in cores {
-            self.core(core, cleanup)?;
+            self.core(core)?;
         }
         Ok(())
     }
 
     // The arguments of `funcall`.
     #[cycle(walk)]
-    fn arguments(&mut self, cores: &[Core<'a>], cleanup: bool) -> Result<(), AllocError>
-        ensures { OnOk result (Adds self.old self.new (λ s. arguments_faults (place_in s cleanup) 0 (cores_of cores.now)) (λ s. stored_in_cores (above s) (cores_of cores.now))) }
+    fn arguments(&mut self, cores: &[Core<'a>]) -> Result<(), AllocError>
+        ensures { OnOk result (Adds self.old self.new (λ s. arguments_faults (place_in s) 0 (cores_of cores.now)) (λ s. stored_in_cores (above s) (cores_of cores.now))) }
     {
         for (i, core) in cores.iter().enumerate() {
             self.find_if(i == MOST, FaultKind::TooMany, core.at);
-            self.core(core, cleanup)?;
+            self.core(core)?;
         }
         Ok(())
     }
 
     // The values of bindings, which don't see the variables.
     #[cycle(walk)]
-    fn values(&mut self, binds: &[Bound<'a>], cleanup: bool) -> Result<(), AllocError>
-        ensures { OnOk result (Adds self.old self.new (λ s. values_faults (place_in s cleanup) (bounds_of binds.now)) (λ s. stored_in_values (above s) (bounds_of binds.now))) }
+    fn values(&mut self, binds: &[Bound<'a>]) -> Result<(), AllocError>
+        ensures { OnOk result (Adds self.old self.new (λ s. values_faults (place_in s) (bounds_of binds.now)) (λ s. stored_in_values (above s) (bounds_of binds.now))) }
     {
         for bound in binds {
-            self.core(&bound.value, cleanup)?;
+            self.core(&bound.value)?;
         }
         Ok(())
     }
 
     // A body under the variables of bindings.
     #[cycle(walk)]
-    fn under_variables(
-        &mut self,
-        body: &Core<'a>,
-        binds: &[Bound<'a>],
-        cleanup: bool,
-    ) -> Result<(), AllocError>
-        ensures { OnOk result (Adds self.old self.new (λ s. node_faults (place_in s cleanup) 0 (lambda (binders_in (bounds_of binds.now)) (core_of body.now))) (λ s. stored_in_node (above s) (lambda (binders_in (bounds_of binds.now)) (core_of body.now)))) }
+    fn under_variables(&mut self, body: &Core<'a>, binds: &[Bound<'a>]) -> Result<(), AllocError>
+        ensures { OnOk result (Adds self.old self.new (λ s. node_faults (place_in s) 0 (lambda (binders_in (bounds_of binds.now)) (core_of body.now))) (λ s. stored_in_node (above s) (lambda (binders_in (bounds_of binds.now)) (core_of body.now)))) }
     {
         let outer = self.depth();
         self.bind_variables(binds)?;
-        self.core(body, cleanup)?;
+        self.core(body)?;
         self.leave(outer);
         Ok(())
     }
 
     // A body under parameters.
     #[cycle(walk)]
-    fn under_params(
-        &mut self,
-        body: &Core<'a>,
-        params: &[Binder],
-        cleanup: bool,
-    ) -> Result<(), AllocError>
-        ensures { OnOk result (Adds self.old self.new (λ s. node_faults (place_in s cleanup) 0 (lambda (binders_of params.now) (core_of body.now))) (λ s. stored_in_node (above s) (lambda (binders_of params.now) (core_of body.now)))) }
+    fn under_params(&mut self, body: &Core<'a>, params: &[Binder]) -> Result<(), AllocError>
+        ensures { OnOk result (Adds self.old self.new (λ s. node_faults (place_in s) 0 (lambda (binders_of params.now) (core_of body.now))) (λ s. stored_in_node (above s) (lambda (binders_of params.now) (core_of body.now)))) }
     {
         let outer = self.depth();
         self.bind_params(params)?;
-        self.core(body, cleanup)?;
+        self.core(body)?;
         self.leave(outer);
         Ok(())
     }
 
     // Goes under parameters, and finds what is wrong in their list.
     fn bind_params(&mut self, params: &[Binder]) -> Result<(), AllocError>
-        ensures first { OnOk result (self.new.first ≡ first_of self.old.first (list_faults (place_in self.old.seen false) (binders_of params.now))) }
+        ensures first { OnOk result (self.new.first ≡ first_of self.old.first (list_faults (place_in self.old.seen) (binders_of params.now))) }
         ensures stored { OnOk result (self.new.stored ≡ self.old.stored) }
         ensures seen { OnOk result (self.new.seen ≡ seen_under (binders_of params.now) self.old.seen) }
     {
@@ -277,7 +260,7 @@ impl<'p, 'a> Walk<'p, 'a> {
 
     // Goes under the variables of bindings, and finds what is wrong in their list.
     fn bind_variables(&mut self, binds: &[Bound<'a>]) -> Result<(), AllocError>
-        ensures first { OnOk result (self.new.first ≡ first_of self.old.first (list_faults (place_in self.old.seen false) (binders_in (bounds_of binds.now)))) }
+        ensures first { OnOk result (self.new.first ≡ first_of self.old.first (list_faults (place_in self.old.seen) (binders_in (bounds_of binds.now)))) }
         ensures stored { OnOk result (self.new.stored ≡ self.old.stored) }
         ensures seen { OnOk result (self.new.seen ≡ seen_under (binders_in (bounds_of binds.now)) self.old.seen) }
     {
@@ -327,7 +310,7 @@ impl<'p, 'a> Walk<'p, 'a> {
 
     // A use of a variable.
     fn used(&mut self, name: VarName, at: Offset)
-        ensures { Adds self.old self.new (λ s. use_faults (place_in s false) at.0 (name_of name)) (λ s. []) }
+        ensures { Adds self.old self.new (λ s. use_faults (place_in s) at.0 (name_of name)) (λ s. []) }
     {
         let VarName::Sym(name) = name else {
             return;
@@ -338,7 +321,7 @@ impl<'p, 'a> Walk<'p, 'a> {
 
     // A `setq` of this variable.
     fn set(&mut self, name: VarName, named: Offset) -> Result<(), AllocError>
-        ensures { OnOk result (Adds self.old self.new (λ s. use_faults (place_in s false) named.0 (name_of name)) (λ s. binder_set (above s) (name_of name))) }
+        ensures { OnOk result (Adds self.old self.new (λ s. use_faults (place_in s) named.0 (name_of name)) (λ s. binder_set (above s) (name_of name))) }
     {
         self.used(name, named);
         let VarName::Sym(number) = name else {
@@ -360,35 +343,10 @@ impl<'p, 'a> Walk<'p, 'a> {
         }
     }
 
-    // A core form that may stand in a cleanup.
-    fn cleanup_form(&mut self, core: &Core<'a>, cleanup: bool)
-        ensures { Adds self.old self.new (λ s. cleanup_faults (place_in s cleanup) core.now.at.0 (node_of core.now.node)) (λ s. []) }
-    {
-        let is_bad = cleanup && !may_clean(&core.node);
-        self.find_if(is_bad, FaultKind::BadCleanup, core.at);
-    }
-
     // Finds this fault where the test holds.
     fn find_if(&mut self, holds: bool, kind: FaultKind, at: Offset)
         ensures { Adds self.old self.new (λ s. where_true holds (fault kind at.0)) (λ s. []) }
     {
         find_if(&mut self.first, holds, kind, at);
     }
-}
-
-// Whether a form of this kind may stand in a cleanup.
-fn may_clean(node: &Node) -> bool
-    ensures { result ≡ rules.may_clean (node_of node.now) }
-{
-    matches!(
-        node,
-        Node::Const(_)
-            | Node::Var(_)
-            | Node::Setq { .. }
-            | Node::If { .. }
-            | Node::Progn(_)
-            | Node::Let { .. }
-            | Node::Prim { .. }
-            | Node::Print(_)
-    )
 }

@@ -40,7 +40,6 @@ refusal_name kind =
     else (if kind == 13 then codes "nofunction"
     else (if kind == 14 then codes "twice"
     else (if kind == 15 then codes "wrongcount"
-    else (if kind == 16 then codes "badcleanup"
     else (if kind == 17 then codes "shadow"
     else (if kind == 18 then codes "toomany"
-    else codes "badshape"))))))))))))))))
+    else codes "badshape")))))))))))))))

@@ -55,7 +55,6 @@ pub fn refusal_name(kind: u8) -> &'static [u8]
         13 => b"nofunction",
         14 => b"twice",
         15 => b"wrongcount",
-        16 => b"badcleanup",
         17 => b"shadow",
         18 => b"toomany",
         _ => b"badshape",

@@ -7,7 +7,7 @@ use Rattle.ql_scope.proofs.Opened.{opened, bound_opened, setq_is, if_is, let_is,
 use Rattle.ql_scope.proofs.walk.Walk.+walk.Goals as goal
 
 pub core-returns : goal.core-returns
-core-returns g c = rw (opened c.args.core.now) (then_more c.node.result _ _ _ _ _ _ _ c.cleanup_form.ensures c.node.ensures)
+core-returns g c = rw (opened c.args.core.now) c.node.ensures
 
 pub cores-returns : goal.cores-returns
 cores-returns g c =
@@ -45,13 +45,13 @@ values-loop-bound-preserved g c w more =
 
 pub under_params-returns : goal.under_params-returns
 under_params-returns g c =
-    under_binders (binders_of c.args.params.now) (core_of c.args.body.now) c.args.cleanup c.args.self.now c.bind_params.new.self c.core.new.self c.leave.new.self
+    under_binders (binders_of c.args.params.now) (core_of c.args.body.now) c.args.self.now c.bind_params.new.self c.core.new.self c.leave.new.self
     c.in_ok-bind_params.ensures.first c.in_ok-bind_params.ensures.stored c.in_ok-bind_params.ensures.seen c.in_ok-core.ensures
     (rw c.depth-outer.ensures at c.leave.ensures)
 
 pub under_variables-returns : goal.under_variables-returns
 under_variables-returns g c =
-    under_binders (binders_in (bounds_of c.args.binds.now)) (core_of c.args.body.now) c.args.cleanup c.args.self.now c.bind_variables.new.self c.core.new.self c.leave.new.self
+    under_binders (binders_in (bounds_of c.args.binds.now)) (core_of c.args.body.now) c.args.self.now c.bind_variables.new.self c.core.new.self c.leave.new.self
     c.in_ok-bind_variables.ensures.first c.in_ok-bind_variables.ensures.stored c.in_ok-bind_variables.ensures.seen c.in_ok-core.ensures
     (rw c.depth-outer.ensures at c.leave.ensures)
 
@@ -108,4 +108,4 @@ node-returns-in_ok-core-in-Throw g c =
 pub node-returns-in_ok-core-in-Protect : goal.node-returns-in_ok-core-in-Protect
 node-returns-in_ok-core-in-Protect g c =
     let step = then_more c.core-in-Protect-2.result _ _ _ _ _ _ _ c.in_ok-core-in-Protect.ensures c.core-in-Protect-2.ensures in
-    rw (c.in-Protect.is, protect_is c.in-Protect.value c.in-Protect.last) (rw (c.get-in-Protect.ensures, c.get-in-Protect-2.ensures) at step)
+    rw (c.in-Protect.is, protect_is c.in-Protect.value c.in-Protect.cleanup) (rw (c.get-in-Protect.ensures, c.get-in-Protect-2.ensures) at step)

@@ -8,15 +8,15 @@ use Rattle.ql_scope.proofs.walk.Walk.+walk.Given as goal
 -- What the rest adds, the whole adds.
 abbrev pub invariant-cores-loop-core : goal.invariant-cores-loop-core
 invariant-cores-loop-core l =
-    (w : Walk) → Adds l.self w (λ s. cores_faults (place_in s l.cleanup) (cores_of (drop l.core-index l.cores))) (λ s. stored_in_cores (above s) (cores_of (drop l.core-index l.cores)))
-    → Adds l.fn.self w (λ s. cores_faults (place_in s l.cleanup) (cores_of l.cores)) (λ s. stored_in_cores (above s) (cores_of l.cores))
+    (w : Walk) → Adds l.self w (λ s. cores_faults (place_in s) (cores_of (drop l.core-index l.cores))) (λ s. stored_in_cores (above s) (cores_of (drop l.core-index l.cores)))
+    → Adds l.fn.self w (λ s. cores_faults (place_in s) (cores_of l.cores)) (λ s. stored_in_cores (above s) (cores_of l.cores))
 
 abbrev pub invariant-arguments-loop-i : goal.invariant-arguments-loop-i
 invariant-arguments-loop-i l =
-    (w : Walk) → Adds l.self w (λ s. arguments_faults (place_in s l.cleanup) l.i (cores_of (drop l.i l.cores))) (λ s. stored_in_cores (above s) (cores_of (drop l.i l.cores)))
-    → Adds l.fn.self w (λ s. arguments_faults (place_in s l.cleanup) 0 (cores_of l.cores)) (λ s. stored_in_cores (above s) (cores_of l.cores))
+    (w : Walk) → Adds l.self w (λ s. arguments_faults (place_in s) l.i (cores_of (drop l.i l.cores))) (λ s. stored_in_cores (above s) (cores_of (drop l.i l.cores)))
+    → Adds l.fn.self w (λ s. arguments_faults (place_in s) 0 (cores_of l.cores)) (λ s. stored_in_cores (above s) (cores_of l.cores))
 
 abbrev pub invariant-values-loop-bound : goal.invariant-values-loop-bound
 invariant-values-loop-bound l =
-    (w : Walk) → Adds l.self w (λ s. values_faults (place_in s l.cleanup) (bounds_of (drop l.bound-index l.binds))) (λ s. stored_in_values (above s) (bounds_of (drop l.bound-index l.binds)))
-    → Adds l.fn.self w (λ s. values_faults (place_in s l.cleanup) (bounds_of l.binds)) (λ s. stored_in_values (above s) (bounds_of l.binds))
+    (w : Walk) → Adds l.self w (λ s. values_faults (place_in s) (bounds_of (drop l.bound-index l.binds))) (λ s. stored_in_values (above s) (bounds_of (drop l.bound-index l.binds)))
+    → Adds l.fn.self w (λ s. values_faults (place_in s) (bounds_of l.binds)) (λ s. stored_in_values (above s) (bounds_of l.binds))
