@@ -1,2 +1,3 @@
+mod Emission
 pub mod Compile
 pub mod Laws

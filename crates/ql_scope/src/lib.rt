@@ -7,6 +7,6 @@ pub mod check;
 pub mod laws;
 mod repeats;
 pub mod scoped;
-mod table;
+pub mod table;
 mod variable;
 mod walk;

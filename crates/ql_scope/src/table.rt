@@ -39,7 +39,7 @@ pub fn replace<T: Copy>(table: &mut Vec<Option<T>>, number: u32, value: Option<T
 }
 
 /// Gives this number a value. A table that doesn't reach so far grows.
-fn put<T: Copy>(table: &mut Vec<Option<T>>, number: u32, value: T) -> Result<(), AllocError>
+pub fn put<T: Copy>(table: &mut Vec<Option<T>>, number: u32, value: T) -> Result<(), AllocError>
     ensures { OnOk result ((n : ℕ) → slice_index_or table.new.items n None ≡ (if number == n then Some value else slice_index_or table.old.items n None)) }
 {
     reach(table, number)?;
