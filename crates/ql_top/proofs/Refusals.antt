@@ -1,6 +1,5 @@
 -- No bytes have two refusals by one command.
 use Rattle.std.proofs.Common.{◌≡◌, ◌≤◌, ℕ, List, Option, Some, None, refl, sym, ap, ◌∙◌, subst, arith}
-use Rattle.std.specs.Prelude.{option_map}
 use Rattle.ql_base.specs.Names.{AreDistinct, reserved, with_names}
 use Rattle.ql_base.specs.Refusal.{least, told}
 use Rattle.ql_forms.specs.Form.{Forms}

@@ -1,5 +1,5 @@
 -- The texts of a command.
-use Rattle.std.proofs.Common.{◌≡◌, ℕ, List, [], Some, refl, sym, ap, ◌∙◌, subst}
+use Rattle.std.proofs.Common.{◌≡◌, ℕ, List, [], Some, refl, sym, ◌∙◌, subst}
 use Rattle.ql_base.specs.Limits.{usual}
 use Rattle.ql_base.specs.declared.limits.Limits.{Limits}
 use Rattle.ql_forms.specs.Form.{Forms}

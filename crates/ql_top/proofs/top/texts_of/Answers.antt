@@ -1,4 +1,3 @@
-use Rattle.std.proofs.Common.{sym}
 use Rattle.ql_forms.specs.View.{forms_of}
 use Rattle.ql_expand.specs.ProgramView.{program_of}
 use Rattle.ql_top.proofs.top.texts_of.Goals as goal
