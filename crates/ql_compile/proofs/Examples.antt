@@ -6,7 +6,7 @@ use Rattle.ql_base.specs.Names.{reserved}
 use Rattle.ql_forms.specs.Form as form
 use Rattle.ql_forms.specs.Form.{atom}
 use Rattle.ql_expand.specs.Core.{named, binder, core, constant, variable, setq, primitive, print, call, qlet, no_cores, and_core, no_bounds, and_bound, function, Program, program}
-use Rattle.ql_meaning.specs.Worked.{Worked, IsTold, sum_printed, nothing_at_all, quoted_list, overflow, even_odd, closures_share, small_fib, eager_throw, eager_throw_new, siblings, grandchildren, exit_kills, killed_cleanup, outer_throw, queued_calls, deadlock, dead_closure, eager_closure, budget_spent, one_cell, no_cells, product, throw_in_cleanup, catch_in_cleanup, send_in_cleanup, idle_in_cleanup, eager_deadlock, child_text, box_kept, qlet_in_cleanup, qcatch_waits, calls_served, call_of_itself, all_made, one_cell_met, call_in_cleanup, catches_in_killed, cleaning_goes_on, home_kept, closure_shared, eager_in_cleanup, eager_nested, caught_in_call}
+use Rattle.ql_meaning.specs.Worked.{Worked, IsTold, sum_printed, nothing_at_all, quoted_list, overflow, even_odd, closures_share, small_fib, eager_throw, eager_throw_new, siblings, grandchildren, exit_kills, killed_cleanup, outer_throw, queued_calls, deadlock, dead_closure, eager_closure, budget_spent, one_cell, no_cells, product, throw_in_cleanup, catch_in_cleanup, send_in_cleanup, idle_in_cleanup, eager_deadlock, child_text, box_kept, qlet_in_cleanup, qcatch_waits, calls_served, call_of_itself, all_made, one_cell_met, call_in_cleanup, catches_in_killed, cleaning_goes_on, home_kept, closure_shared, eager_in_cleanup, eager_nested, caught_in_call, eager_in_order}
 use Rattle.ql_code.specs.Machine.{code_told}
 use Rattle.ql_code.specs.Listing.{listing}
 use Rattle.ql_compile.specs.Compile.{compiled}
@@ -318,6 +318,13 @@ caught_in_call_compilable = refl
 caught_in_call_coded : IsCoded caught_in_call
 unfolding digits
 caught_in_call_coded = refl
+
+eager_in_order_compilable : IsCompilable eager_in_order
+eager_in_order_compilable = refl
+
+eager_in_order_coded : IsCoded eager_in_order
+unfolding digits
+eager_in_order_coded = refl
 
 -- (print (+ 1 2))
 sum_listed : listing reserved (compiled sum_printed.program) ≡ codes "0 lit 1 @10\n1 lit 2 @12\n2 prim + @7\n3 print @0\n4 drop @0\n5 end @0\n"

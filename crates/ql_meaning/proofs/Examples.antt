@@ -1,13 +1,13 @@
 -- Worked programs: what each means along its schedule, that one worker takes that schedule, and that the journal spells it.
-use Rattle.std.specs.Prelude.{◌≡◌, true, Option, Some, option_map}
+use Rattle.std.specs.Prelude.{◌≡◌, ℕ, List, [], ◌∷◌, true, take, Option, Some, option_map}
 use Rattle.std.proofs.Common.{refl}
 use Rattle.std.specs.Fmt.{digits}
 use Rattle.ql_world.specs.Event.{turns}
-use Rattle.ql_world.specs.Run.{Story, is_planned}
+use Rattle.ql_world.specs.Run.{Story, run, ready_ones, is_planned}
 use Rattle.ql_meaning.specs.Context.{context_of}
 use Rattle.ql_meaning.specs.Control.{core_machine}
 use Rattle.ql_meaning.specs.Meaning.{program_told, program_world}
-use Rattle.ql_meaning.specs.Worked.{Worked, IsTold, sum_printed, nothing_at_all, quoted_list, overflow, even_odd, closures_share, small_fib, eager_throw, eager_throw_new, siblings, grandchildren, exit_kills, killed_cleanup, outer_throw, queued_calls, deadlock, dead_closure, eager_closure, budget_spent, one_cell, no_cells, product, throw_in_cleanup, catch_in_cleanup, send_in_cleanup, idle_in_cleanup, eager_deadlock, child_text, box_kept, qlet_in_cleanup, qcatch_waits, calls_served, call_of_itself, all_made, one_cell_met, call_in_cleanup, catches_in_killed, cleaning_goes_on, home_kept, closure_shared, eager_in_cleanup, eager_nested, caught_in_call}
+use Rattle.ql_meaning.specs.Worked.{Worked, IsTold, sum_printed, nothing_at_all, quoted_list, overflow, even_odd, closures_share, small_fib, eager_throw, eager_throw_new, siblings, grandchildren, exit_kills, killed_cleanup, outer_throw, queued_calls, deadlock, dead_closure, eager_closure, budget_spent, one_cell, no_cells, product, throw_in_cleanup, catch_in_cleanup, send_in_cleanup, idle_in_cleanup, eager_deadlock, child_text, box_kept, qlet_in_cleanup, qcatch_waits, calls_served, call_of_itself, all_made, one_cell_met, call_in_cleanup, catches_in_killed, cleaning_goes_on, home_kept, closure_shared, eager_in_cleanup, eager_nested, caught_in_call, eager_in_order}
 
 abbrev told_of : Worked → Option Story
 told_of w = program_told w.names w.program w.limits w.schedule
@@ -17,6 +17,12 @@ IsMeant w = IsTold w (told_of w)
 
 abbrev IsPlanned : Worked → Type 0
 IsPlanned w = is_planned (core_machine (context_of w.program)) w.names w.limits (program_world w.program) w.schedule ≡ true
+
+-- who can step after the first ticks of the schedule
+abbrev can_step_after : ℕ → Worked → Option (List ℕ)
+can_step_after n w =
+    option_map (ready_ones (core_machine (context_of w.program)) w.names w.limits)
+    (run (core_machine (context_of w.program)) w.names w.limits (program_world w.program) (take n w.schedule))
 
 abbrev IsSpelled : Worked → Type 0
 IsSpelled w = option_map (λ (s : Story). turns s.journal.events) (told_of w) ≡ Some w.schedule
@@ -536,3 +542,30 @@ caught_in_call_planned = refl
 caught_in_call_spelled : IsSpelled caught_in_call
 unfolding digits
 caught_in_call_spelled = refl
+
+eager_in_order_meant : IsMeant eager_in_order
+unfolding digits
+eager_in_order_meant = refl
+
+eager_in_order_planned : IsPlanned eager_in_order
+unfolding digits
+eager_in_order_planned = refl
+
+eager_in_order_spelled : IsSpelled eager_in_order
+unfolding digits
+eager_in_order_spelled = refl
+
+-- the `qcatch` has its value, and is not left while calls are queued
+queued_calls_waits : can_step_after 17 queued_calls ≡ Some (2 ∷ [])
+unfolding digits
+queued_calls_waits = refl
+
+-- process 3 has thrown to the `qcatch`, which is not left before the killed have cleaned up and ended
+qcatch_waits_waits : can_step_after 15 qcatch_waits ≡ Some (2 ∷ 3 ∷ [])
+unfolding digits
+qcatch_waits_waits = refl
+
+-- the last form has its value, and the program does not end before the child has
+eager_throw_waits : can_step_after 5 eager_throw ≡ Some (2 ∷ [])
+unfolding digits
+eager_throw_waits = refl

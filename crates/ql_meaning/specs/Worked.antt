@@ -520,3 +520,20 @@ caught_in_call = record {
   output = codes "2\n";
   journal = codes "qlisp 2 50 1000000 65535 16777216\nturn 1 6\nopen 1 1 0\nturn 1 2\nspawn 1 2 1 call 1\nturn 1 4\nsend 1 1 1\nturn 1 2\nspawn 1 3 1 let\nturn 2 1\ntake 2 1 1\nturn 2 2\nopen 2 2 1\nturn 2 1\nprotect 2 1\nturn 2 3\nthrow 2 2\nturn 2 1\nbegin 2 1\nturn 2 3\nfinish 2 1\nturn 2 1\nland 2 2\nturn 2 1\nreply 2 1 1 0\nturn 3 3\nthrow 3 1\nkill 1 2\nkill 1 3\nturn 3 1\nend 3 killed\nturn 1 1\nland 1 1\nturn 1 1\nturn 2 1\nend 2 killed\nturn 1 1\nexit 1 0\nend 1 ok\nstop done\n";
 }
+
+-- (defvar g0 -1)
+-- (defvar g1 (let ((c2 (qlambda 'eager (x0) g0 -2))) (funcall c2 6) (funcall c2 g0) (funcall c2 g0) g0))
+-- (defvar gc (lambda (x) x))
+-- (print (qcatch 'k g0 g1))
+-- (defun f0 (n y) (if (< n 1) y (+ (f0 (- n 1) 1) (qlet t ((v0 6)) 0))))
+-- (defun f1 (n y) (if (< n 1) y (+ (f1 (- n 1) n) g1)))
+-- (defun spin () (spin))
+abbrev pub eager_in_order : Worked
+eager_in_order = record {
+  program = program ((function 171 53 178 ((binder 182 (named 54)) ∷ (binder 184 (named 55)) ∷ []) (core 187 (conditional (core 191 (primitive 35 (and_core (core 194 (variable (named 54))) (and_core (core 196 (constant (atom 196 (form.integer (pos 1))))) no_cores)))) (core 199 (variable (named 55))) (core 201 (primitive 29 (and_core (core 204 (call 53 205 (and_core (core 208 (primitive 30 (and_core (core 211 (variable (named 54))) (and_core (core 213 (constant (atom 213 (form.integer (pos 1))))) no_cores)))) (and_core (core 216 (constant (atom 216 (form.integer (pos 1))))) no_cores)))) (and_core (core 219 (qlet (core 225 (constant (atom 225 (form.symbol 1)))) (and_bound (binder 229 (named 56)) (core 232 (constant (atom 232 (form.integer (pos 6))))) no_bounds) (core 236 (constant (atom 236 (form.integer (pos 0))))))) no_cores))))))) ∷ (function 242 57 249 ((binder 253 (named 54)) ∷ (binder 255 (named 55)) ∷ []) (core 258 (conditional (core 262 (primitive 35 (and_core (core 265 (variable (named 54))) (and_core (core 267 (constant (atom 267 (form.integer (pos 1))))) no_cores)))) (core 270 (variable (named 55))) (core 272 (primitive 29 (and_core (core 275 (call 57 276 (and_core (core 279 (primitive 30 (and_core (core 282 (variable (named 54))) (and_core (core 284 (constant (atom 284 (form.integer (pos 1))))) no_cores)))) (and_core (core 287 (variable (named 54))) no_cores)))) (and_core (core 290 (variable (named 47))) no_cores))))))) ∷ (function 296 58 303 ([]) (core 311 (call 58 312 no_cores))) ∷ []) (46 ∷ 47 ∷ 50 ∷ []) (and_core (core 0 (defvar 46 8 (core 11 (constant (atom 11 (form.integer (negsuc 0))))))) (and_core (core 15 (defvar 47 23 (core 26 (binding (and_bound (binder 33 (named 48)) (core 36 (qlambda (core 45 (constant (atom 46 (form.symbol 3)))) ((binder 53 (named 49)) ∷ []) (core 36 (progn (and_core (core 57 (variable (named 46))) (and_core (core 60 (constant (atom 60 (form.integer (negsuc 1))))) no_cores)))))) no_bounds) (core 26 (progn (and_core (core 66 (funcall true (core 75 (variable (named 48))) (and_core (core 78 (constant (atom 78 (form.integer (pos 6))))) no_cores))) (and_core (core 81 (funcall true (core 90 (variable (named 48))) (and_core (core 93 (variable (named 46))) no_cores))) (and_core (core 97 (funcall true (core 106 (variable (named 48))) (and_core (core 109 (variable (named 46))) no_cores))) (and_core (core 113 (variable (named 46))) no_cores)))))))))) (and_core (core 118 (defvar 50 126 (core 129 (lambda ((binder 138 (named 51)) ∷ []) (core 141 (variable (named 51))))))) (and_core (core 145 (print (core 152 (qcatch (core 160 (constant (atom 161 (form.symbol 52)))) (core 152 (progn (and_core (core 163 (variable (named 46))) (and_core (core 166 (variable (named 47))) no_cores)))))))) no_cores))));
+  names = reserved ++ codes "g0" ∷ codes "g1" ∷ codes "c2" ∷ codes "x0" ∷ codes "gc" ∷ codes "x" ∷ codes "k" ∷ codes "f0" ∷ codes "n" ∷ codes "y" ∷ codes "v0" ∷ codes "f1" ∷ codes "spin" ∷ [];
+  limits = record usual { budget = 2000; quantum = 17; policy = New };
+  schedule = replicate 4 1 ++ replicate 4 1 ++ replicate 3 1 ++ replicate 3 1 ++ replicate 3 1 ++ replicate 3 2 ++ replicate 3 2 ++ replicate 3 2 ++ replicate 2 2 ++ replicate 3 1 ++ replicate 3 1 ++ replicate 2 1 ++ replicate 1 2;
+  output = codes "-1\n";
+  journal = codes "qlisp 2 2000 1000000 65535 16777216\nturn 1 4\nspawn 1 2 0 eager 1\nturn 1 4\nsend 1 1 1\ntake 2 1 1\nturn 1 3\nsend 1 1 2\nturn 1 3\nsend 1 1 3\nturn 1 3\nturn 2 3\nreply 2 1 1 -2\ntake 2 1 2\nturn 2 3\nreply 2 1 2 -2\ntake 2 1 3\nturn 2 3\nreply 2 1 3 -2\nturn 2 2\nturn 1 3\nopen 1 1 0\nturn 1 3\nexit 1 1\nturn 1 2\nexit 1 0\nkill 0 2\nend 1 ok\nturn 2 1\nend 2 killed\nstop done\n";
+}
