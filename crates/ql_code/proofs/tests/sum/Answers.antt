@@ -1,4 +1,4 @@
-use Rattle.ql_code.proofs.SumListed.{sum_is_sound}
+use Rattle.ql_code.proofs.Listed.{sum_is_sound}
 use Rattle.ql_code.proofs.tests.sum.Goals as goal
 
 pub new-requires-3-clause-sound : goal.new-requires-3-clause-sound
