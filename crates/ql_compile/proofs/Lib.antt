@@ -25,6 +25,7 @@ mod Simulation
 mod Sized
 mod Sizes
 mod SlotKinds
+mod Slotted
 mod SoundExamples
 mod Stacks
 mod Strict

@@ -1,3 +1,4 @@
-mod Emission
+pub mod Emission
 pub mod Compile
 pub mod Laws
+pub mod Slots
