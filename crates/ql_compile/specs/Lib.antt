@@ -1,3 +1,4 @@
 mod Emission
+mod Quoting
 pub mod Compile
 pub mod Laws
