@@ -18,6 +18,7 @@ mod Gives
 mod Goes
 mod Noted
 mod ProgramIsFine
+mod Quoting
 mod Relation
 mod Right
 mod Scopes

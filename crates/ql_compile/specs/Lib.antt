@@ -1,4 +1,4 @@
 mod Emission
-mod Quoting
+pub mod Quoting
 pub mod Compile
 pub mod Laws

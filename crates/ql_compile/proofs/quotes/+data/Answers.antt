@@ -1,0 +1,1 @@
+use Rattle.ql_compile.proofs.quotes.+data.Goals as goal
