@@ -16,6 +16,7 @@ mod Fitting
 mod Follows
 mod Gives
 mod Goes
+mod Linked
 mod Noted
 mod ProgramIsFine
 mod Quoting

@@ -132,6 +132,7 @@ fn put_form(
 
 // The word of a list: the pairs of its items come first, and then its own from its end.
 #[cycle(quoted)]
+#[tactic(auto, using(crate::proofs::Linked::linked_last))]
 fn put_items(
     alloc: Global,
     pairs: &mut Vec<(Word, Word)>,

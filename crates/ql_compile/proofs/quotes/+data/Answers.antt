@@ -1,1 +1,0 @@
-use Rattle.ql_compile.proofs.quotes.+data.Goals as goal
