@@ -28,6 +28,7 @@ mod Sized
 mod Sizes
 mod SlotKinds
 mod SoundExamples
+mod SourceOrder
 mod Stacks
 mod Strict
 mod Unwinds

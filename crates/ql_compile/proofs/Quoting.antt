@@ -1,155 +1,54 @@
--- The quoted data of a program: their order, their pairs and their words.
-use Rattle.std.proofs.Common.{◌≡◌, ℕ, ◌+◌, suc, ◌<◌, ◌≤◌, Bool, true, false, cond, ◌&&◌, not, nat_lt, List, [], ◌∷◌, ◌++◌, length, take, drop, map, filter, refl, sym, ap, subst, ◌∙◌, arith, append_assoc, append-nil, length-append, get_or, slice_get, true≢false, ◌==◌}
-use Rattle.std.specs.Prelude.{Result, OnOk, reverse}
-use Rattle.std.specs.List.Sorted.{ties, IsNonDecreasingBy, IsStableByKey}
-use Rattle.std.proofs.lemmas.List.Elements.{filter-append}
-use Rattle.std.proofs.lemmas.Grind.{reverse_onto}
-use Rattle.ql_forms.specs.Form.{Form}
-use Rattle.std.specs.Ordering.{is_lt, nat_cmp}
+-- The words of quoted data by their offsets, and the order of their pairs.
+use Rattle.std.proofs.Common.{◌≡◌, ℕ, ◌+◌, ◌<◌, ◌≤◌, Bool, true, false, cond, nat_eq, List, [], ◌∷◌, ◌++◌, length, Option, Some, None, is_some, refl, sym, ap, ◌∙◌, arith, append_assoc, length-append, slice_get, true≢false}
+use Rattle.std.specs.Map.{lookup}
+use Rattle.std.specs.HashMap.{HashMap, get}
+use Rattle.indexmap.proofs.CallerLemmas.{insert_entry-new}
+use Rattle.indexmap.specs.IndexMap.{insert_entry}
 use Rattle.std.proofs.lemmas.Bool.Decides.{nat_tests}
-use Rattle.ql_meaning.specs.Context.{Datum, with_datum, in_source_order}
+use Rattle.ql_forms.specs.Form.{Form, atom, list, Forms, none, more, Tail, proper, dotted, Atom, integer, symbol}
+use Rattle.ql_meaning.specs.Context.{Pairs, Datum, atom_word, quoted, quoted_items, quotes_after, tail_word, with_pair, word_at}
+use Rattle.ql_world.specs.Text.{AreOrdered, IsBefore}
+use Rattle.ql_world.specs.Word.{nil}
+use Rattle.ql_world.specs.declared.word.Word.{Word}
+use Rattle.ql_compile.specs.Quoting.{AddsWord}
 
--- Insertion sort by a number, as `in_source_order` does.
-module _ {X : Type 0} (n : X → ℕ) where
-  abbrev pub with_item : X → List X → List X
-  with_item x [] = x ∷ []
-  with_item x (y ∷ ys) = cond (nat_lt (n x) (n y)) (x ∷ (y ∷ ys)) (y ∷ with_item x ys)
+abbrev or_nil : Option Word → Word
+or_nil None = nil
+or_nil (Some w) = w
 
-  abbrev pub sorted : List X → List X
-  sorted [] = []
-  sorted (x ∷ xs) = with_item x (sorted xs)
+alike : (m n : ℕ) → nat_eq m n ≡ nat_eq n m
+alike m n = grind (arith, nat_tests)
 
-  -- whether two items have equal numbers
-  abbrev lt : X → X → Bool
-  lt x y = is_lt (nat_cmp (n x) (n y))
+-- a look-up finds the first word of an offset
+pub word_found : (es : List (ℕ × Word)) (at : ℕ) → word_at es at ≡ or_nil (lookup (nat_eq at) es)
+word_found [] at = refl
+word_found (e ∷ es) at = rw (alike e.0 at, word_found es at) (elim (nat_eq at e.0) as (λ b. cond b e.1 (or_nil (lookup (nat_eq at) es)) ≡ or_nil (cond b (Some e.1) (lookup (nat_eq at) es))) [ true ↦ refl | false ↦ refl ])
 
-  abbrev NoLess : ℕ → List X → Type 0
-  NoLess k [] = Unit {0}
-  NoLess k (y ∷ ys) = (k ≤ n y) × NoLess k ys
+-- a word at another offset isn't found
+passed : (es rest : List (ℕ × Word)) (at : ℕ) (w : Word) (q : ℕ) → nat_eq at q ≡ false → word_at (es ++ rest) q ≡ word_at (es ++ (at, w) ∷ rest) q
+passed [] rest at w q h = rw h refl
+passed (e ∷ es) rest at w q h = ap (cond (nat_eq e.0 q) e.1) (passed es rest at w q h)
 
-  abbrev Rises : List X → Type 0
-  Rises [] = Unit {0}
-  Rises (y ∷ ys) = NoLess (n y) ys × Rises ys
+-- a word counts only where its offset is new
+pub known_stays : (es : List (ℕ × Word)) (at : ℕ) (w : Word) → is_some (lookup (nat_eq at) es) ≡ true → AddsWord es es at w
+known_stays [] at w h rest q = absurd (true≢false (sym h))
+known_stays (e ∷ es) at w h rest q = by (nat_eq at e.0) refl (λ k. known_stays es at w k rest q)
+  where
+    here : (b : Bool) → nat_eq at e.0 ≡ true → nat_eq e.0 q ≡ b → cond b e.1 (word_at (es ++ rest) q) ≡ cond b e.1 (word_at (es ++ (at, w) ∷ rest) q)
+    here true same e = refl
+    here false same e = passed es rest at w q (grind (arith, nat_tests))
+    by : (b : Bool) → nat_eq at e.0 ≡ b → (is_some (lookup (nat_eq at) es) ≡ true → word_at (es ++ rest) q ≡ word_at (es ++ (at, w) ∷ rest) q)
+        → word_at ((e ∷ es) ++ rest) q ≡ word_at ((e ∷ es) ++ (at, w) ∷ rest) q
+    by true same later = here (nat_eq e.0 q) same refl
+    by false other later = ap (cond (nat_eq e.0 q) e.1) (later (rw other at h))
 
-  abbrev only_if : Bool → X → List X
-  only_if b x = cond b (x ∷ []) []
+pub new_is_last : (es fs : List (ℕ × Word)) (at : ℕ) (w : Word) → fs ≡ es ++ (at, w) ∷ [] → AddsWord es fs at w
+new_is_last es fs at w h rest q = ap (λ gs. word_at (gs ++ rest) q) h ∙ ap (λ gs. word_at gs q) (append_assoc es ((at, w) ∷ []) rest)
 
-  no_less_with : (k : ℕ) (x : X) (ys : List X) → k ≤ n x → NoLess k ys → NoLess k (with_item x ys)
-  no_less_with k x [] h r = (h, tt)
-  no_less_with k x (y ∷ ys) h r = elim (nat_lt (n x) (n y)) as (λ b. NoLess k (cond b (x ∷ (y ∷ ys)) (y ∷ with_item x ys))) [
-      | true ↦ (h, r)
-      | false ↦ (r.0, no_less_with k x ys h r.1)
-    ]
+none_there : (found : Option Word) → is_some found ≡ false → found ≡ None
+none_there None h = refl
+none_there (Some w) h = absurd (true≢false h)
 
-  no_less_under : (j k : ℕ) (ys : List X) → j ≤ k → NoLess k ys → NoLess j ys
-  no_less_under j k [] h r = tt
-  no_less_under j k (y ∷ ys) h r = (omega arith, no_less_under j k ys h r.1)
-
-  -- what a test of numbers means
-  is_less : (x y : X) → lt x y ≡ nat_lt (n x) (n y)
-  is_less x y = grind arith
-
-  tie : (x y : X) → ties lt x y ≡ true → n x ≡ n y
-  tie x y h = grind arith
-
-  tied : (x y : X) → n x ≡ n y → ties lt x y ≡ true
-  tied x y h = grind arith
-
-  not_tied : (x y : X) → n x < n y → ties lt x y ≡ false
-  not_tied x y h = grind (arith, nat_tests)
-
-  not_less : (x y : X) → nat_lt (n x) (n y) ≡ false → n y ≤ n x
-  not_less x y h = grind (arith, nat_tests)
-
-  less : (x y : X) → nat_lt (n x) (n y) ≡ true → n x < n y
-  less x y h = grind (arith, nat_tests)
-
-  -- among greater ones no item is equal
-  none_tied : (x : X) (k : ℕ) (ys : List X) → n x < k → NoLess k ys → filter (ties lt x) ys ≡ []
-  none_tied x k [] h r = refl
-  none_tied x k (y ∷ ys) h r = rw (not_tied x y (omega arith)) (none_tied x k ys h r.1)
-
-  -- an item goes behind those that are equal to it
-  filter_with : (z x : X) (ys : List X) → Rises ys → filter (ties lt z) (with_item x ys) ≡ filter (ties lt z) ys ++ filter (ties lt z) (x ∷ [])
-  filter_with z x [] r = refl
-  filter_with z x (y ∷ ys) r = by (nat_lt (n x) (n y)) refl (filter_with z x ys r.1)
-    where
-      before : (b : Bool) → ties lt z x ≡ b → n x < n y → filter (ties lt z) (x ∷ (y ∷ ys)) ≡ filter (ties lt z) (y ∷ ys) ++ filter (ties lt z) (x ∷ [])
-      before true e h =
-          let none : filter (ties lt z) (y ∷ ys) ≡ [] = none_tied z (n y) (y ∷ ys) (subst (λ k. k < n y) (sym (tie z x e)) h) (omega arith, r.0) in
-          rw (e, none) refl
-      before false e h = rw e (sym (append-nil (filter (ties lt z) (y ∷ ys))))
-      by : (b : Bool) → nat_lt (n x) (n y) ≡ b → filter (ties lt z) (with_item x ys) ≡ filter (ties lt z) ys ++ filter (ties lt z) (x ∷ [])
-          → filter (ties lt z) (cond b (x ∷ (y ∷ ys)) (y ∷ with_item x ys)) ≡ filter (ties lt z) (y ∷ ys) ++ filter (ties lt z) (x ∷ [])
-      by true e later = before (ties lt z x) refl (less x y e)
-      by false e later = rw later (elim (ties lt z y) as (λ b. cond b (y ∷ (filter (ties lt z) ys ++ filter (ties lt z) (x ∷ []))) (filter (ties lt z) ys ++ filter (ties lt z) (x ∷ [])) ≡ cond b (y ∷ filter (ties lt z) ys) (filter (ties lt z) ys) ++ filter (ties lt z) (x ∷ [])) [ true ↦ refl | false ↦ refl ])
-
-  rises_with : (x : X) (ys : List X) → Rises ys → Rises (with_item x ys)
-  rises_with x [] r = (tt, tt)
-  rises_with x (y ∷ ys) r = by (nat_lt (n x) (n y)) refl (rises_with x ys r.1)
-    where
-      by : (b : Bool) → nat_lt (n x) (n y) ≡ b → Rises (with_item x ys) → Rises (cond b (x ∷ (y ∷ ys)) (y ∷ with_item x ys))
-      by true e later = let h : n x < n y = less x y e in ((omega arith, no_less_under (n x) (n y) ys (omega arith) r.0), r)
-      by false e later = (no_less_with (n y) x ys (not_less x y e) r.0, later)
-
-  sorted_rises : (xs : List X) → Rises (sorted xs)
-  sorted_rises [] = tt
-  sorted_rises (x ∷ xs) = rises_with x (sorted xs) (sorted_rises xs)
-
-  filter_sorted : (z : X) (xs : List X) → filter (ties lt z) (sorted xs) ≡ filter (ties lt z) (reverse xs)
-  filter_sorted z [] = refl
-  filter_sorted z (x ∷ xs) =
-      filter_with z x (sorted xs) (sorted_rises xs) ∙ (ap (λ ys. ys ++ filter (ties lt z) (x ∷ [])) (filter_sorted z xs) ∙ (sym (filter-append (ties lt z) (reverse xs) (x ∷ [])) ∙ ap (filter (ties lt z)) (sym (reverse_onto xs x []))))
-
-  no_less_of : (x : X) (xs : List X) → ((k : ℕ) → k < length xs → n x ≤ n (get_or xs k x)) → NoLess (n x) xs
-  no_less_of x [] h = tt
-  no_less_of x (y ∷ ys) h = (h 0 (omega arith), no_less_of x ys (λ k p. h (suc k) (omega arith)))
-
-  rises_of : (xs : List X) → IsNonDecreasingBy n xs → Rises xs
-  rises_of [] h = tt
-  rises_of (x ∷ xs) h = (no_less_of x xs (λ k p. h 0 (suc k) x (omega arith) (omega arith)), rises_of xs (λ i j d p q. h (suc i) (suc j) d (omega arith) (omega arith)))
-
-  first_is_least : (y : X) (ys : List X) (z : X) (zs : List X) → NoLess (n z) zs → filter (ties lt y) (y ∷ ys) ≡ filter (ties lt y) (z ∷ zs) → n z ≤ n y
-  first_is_least y ys z zs r h = by (nat_lt (n y) (n z)) refl
-    where
-      by : (b : Bool) → nat_lt (n y) (n z) ≡ b → n z ≤ n y
-      by true e =
-          let none : filter (ties lt y) (z ∷ zs) ≡ [] = none_tied y (n z) (z ∷ zs) (less y z e) (omega arith, r) in
-          let some : y ∷ filter (ties lt y) ys ≡ [] = rw (tied y y refl) at (h ∙ none) in
-          cc
-      by false e = not_less y z e
-
-  without_first : (b : Bool) (y z : X) (ys zs : List X) → cond b (y ∷ ys) ys ≡ cond b (z ∷ zs) zs → ys ≡ zs
-  without_first true y z ys zs h = cc
-  without_first false y z ys zs h = h
-
-  -- Of lists that rise, the items of each number in their order make the list.
-  same_by_ties : (ys zs : List X) → Rises ys → Rises zs → ((x : X) → filter (ties lt x) ys ≡ filter (ties lt x) zs) → ys ≡ zs
-  same_by_ties [] [] r s h = refl
-  same_by_ties [] (z ∷ zs) r s h = let e : [] ≡ z ∷ filter (ties lt z) zs = rw (tied z z refl) at (h z) in cc
-  same_by_ties (y ∷ ys) [] r s h = let e : y ∷ filter (ties lt y) ys ≡ [] = rw (tied y y refl) at (h y) in cc
-  same_by_ties (y ∷ ys) (z ∷ zs) r s h =
-      let low : n z ≤ n y = first_is_least y ys z zs s.0 (h y) in
-      let high : n y ≤ n z = first_is_least z zs y ys r.0 (sym (h z)) in
-      let both : y ∷ filter (ties lt y) ys ≡ z ∷ filter (ties lt y) zs = rw (tied y y refl, tied y z (omega arith)) at (h y) in
-      let first : y ≡ z = cc in
-      let later = same_by_ties ys zs r.1 s.1 (λ x. without_first (ties lt x y) y z _ _ (h x ∙ ap (λ w. cond (ties lt x w) (z ∷ filter (ties lt x) zs) (filter (ties lt x) zs)) (sym first))) in
-      cc
-
-  module _ (f : X → Form) where
-    abbrev as_datum : X → Datum
-    as_datum x = (n x, f x)
-
-    with_datum_is : (x : X) (ys : List X) → with_datum (as_datum x) (map as_datum ys) ≡ map as_datum (with_item x ys)
-    with_datum_is x [] = refl
-    with_datum_is x (y ∷ ys) = rw (with_datum_is x ys) (elim (nat_lt (n x) (n y)) as (λ b. cond b (as_datum x ∷ (as_datum y ∷ map as_datum ys)) (as_datum y ∷ map as_datum (with_item x ys)) ≡ map as_datum (cond b (x ∷ (y ∷ ys)) (y ∷ with_item x ys))) [ true ↦ refl | false ↦ refl ])
-
-    sorted_is : (xs : List X) → in_source_order (map as_datum xs) ≡ map as_datum (sorted xs)
-    sorted_is [] = refl
-    sorted_is (x ∷ xs) = rw (sorted_is xs) (with_datum_is x (sorted xs))
-
-    -- A stable sort of the reversed list is the order of the source.
-    pub stable_sort_is : (old new : List X) → IsNonDecreasingBy n new → IsStableByKey n nat_cmp (reverse old) new → map as_datum new ≡ in_source_order (map as_datum old)
-    stable_sort_is old new up stable =
-        let same : new ≡ sorted old = same_by_ties new (sorted old) (rises_of new up) (sorted_rises old) (λ x. stable x ∙ sym (filter_sorted x old)) in
-        ap (map as_datum) same ∙ sym (sorted_is old)
+pub new_counts : {S : Type 0} (m : HashMap ℕ Word S) (fs : List (ℕ × Word)) (at : ℕ) (w : Word)
+    → is_some (get nat_eq m at) ≡ false → fs ≡ insert_entry nat_eq m.entries at w → AddsWord m.entries fs at w
+new_counts m fs at w h e = new_is_last m.entries fs at w (e ∙ insert_entry-new nat_eq m at w (none_there (get nat_eq m at) h))

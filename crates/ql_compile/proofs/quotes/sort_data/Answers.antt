@@ -7,7 +7,7 @@ use Rattle.std.specs.Ordering.{nat_cmp}
 use Rattle.ql_forms.specs.declared.form.Form.{Form}
 use Rattle.ql_forms.specs.Form.{place_of}
 use Rattle.ql_forms.specs.View.{form_of}
-use Rattle.ql_compile.proofs.Quoting.{stable_sort_is}
+use Rattle.ql_compile.proofs.SourceOrder.{stable_sort_is}
 use Rattle.ql_compile.proofs.quotes.sort_data.Goals as goal
 
 abbrev place : Bor Form → ℕ
