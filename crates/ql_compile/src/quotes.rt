@@ -46,7 +46,7 @@ impl Quotes {
 
     /// The word of a constant.
     pub fn word(&self, constant: Constant) -> Word
-        ensures { (x : Context) → HasWords x self.now.words.entries → result ≡ constant_word x (constant_of constant) }
+        ensures { (x : Context) → HasWords x self.now.words.entries → result ≡ constant_word x (constant_of constant.entry) }
     {
         match constant {
             Constant::Atom { atom, .. } => atom_word(atom),
