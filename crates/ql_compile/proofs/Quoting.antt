@@ -1,5 +1,5 @@
 -- The words of quoted data by their offsets, and the order of their pairs.
-use Rattle.std.proofs.Common.{◌≡◌, ◌⊎◌, inl, inr, ℕ, ◌+◌, ◌<◌, ◌≤◌, Bool, true, false, cond, nat_eq, List, [], ◌∷◌, ◌++◌, length, Option, Some, None, is_some, refl, sym, ap, ◌∙◌, arith, subst, zero, suc, append_assoc, length-append, slice_get, true≢false}
+use Rattle.std.proofs.Common.{◌≡◌, ◌⊎◌, inl, inr, ℕ, ◌+◌, ◌≤◌, Bool, true, false, cond, nat_eq, List, [], ◌∷◌, ◌++◌, length, Option, Some, None, is_some, refl, sym, ap, ◌∙◌, arith, subst, zero, suc, append_assoc, length-append, slice_get, true≢false}
 use Rattle.std.specs.Map.{lookup}
 use Rattle.std.specs.HashMap.{HashMap, get}
 use Rattle.indexmap.proofs.CallerLemmas.{insert_entry-new}
@@ -38,6 +38,7 @@ known_stays (e ∷ es) at w h rest q = by (nat_eq at e.0) refl (λ k. known_stay
     here : (b : Bool) → nat_eq at e.0 ≡ true → nat_eq e.0 q ≡ b → cond b e.1 (word_at (es ++ rest) q) ≡ cond b e.1 (word_at (es ++ (at, w) ∷ rest) q)
     here true same e = refl
     here false same e = passed es rest at w q (grind (arith, nat_tests))
+
     by : (b : Bool) → nat_eq at e.0 ≡ b → (is_some (lookup (nat_eq at) es) ≡ true → word_at (es ++ rest) q ≡ word_at (es ++ (at, w) ∷ rest) q)
         → word_at ((e ∷ es) ++ rest) q ≡ word_at ((e ∷ es) ++ (at, w) ∷ rest) q
     by true same later = here (nat_eq e.0 q) same refl
@@ -81,9 +82,9 @@ pushed (z ∷ xs) y (suc i) x h = elim (pushed xs y i x h) [ inl e ↦ inl e | i
 
 ordered_more : (ps : Pairs) (a b : Word) → AreOrdered ps → IsBefore (length ps) a → IsBefore (length ps) b → AreOrdered (ps ++ (a, b) ∷ [])
 ordered_more ps a b o x y i p at = elim (pushed ps (a, b) i p at) [
-    | inl e ↦ o i p e
-    | inr e ↦ subst (λ j. IsBefore j p.0 × IsBefore j p.1) (sym e.0) (subst (λ q. IsBefore (length ps) q.0 × IsBefore (length ps) q.1) (sym e.1) (x, y))
-  ]
+  | inl e ↦ o i p e
+  | inr e ↦ subst (λ j. IsBefore j p.0 × IsBefore j p.1) (sym e.0) (subst (λ q. IsBefore (length ps) q.0 × IsBefore (length ps) q.1) (sym e.1) (x, y))
+]
 
 pair_follows : (m n : ℕ) (a : Word) (d : Pairs × Word) → m ≤ n → IsBefore n a → Follows n d → Follows m (with_pair a d)
 pair_follows m n a d h x f =

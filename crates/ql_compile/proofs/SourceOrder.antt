@@ -1,9 +1,14 @@
 -- The order of quoted data: a stable sort by offset is the order of the source.
-use Rattle.std.proofs.Common.{◌≡◌, ℕ, ◌+◌, suc, ◌<◌, ◌≤◌, Bool, true, false, cond, ◌&&◌, not, nat_lt, List, [], ◌∷◌, ◌++◌, length, take, drop, map, filter, refl, sym, ap, subst, ◌∙◌, arith, append_assoc, append-nil, length-append, get_or, slice_get, true≢false, ◌==◌}
+use Rattle.std.proofs.Common.{◌≡◌, Bor, ℕ, suc, ◌<◌, ◌≤◌, Bool, true, false, cond, nat_lt, List, [], ◌∷◌, ◌++◌, length, map, filter, refl, sym, ap, subst, ◌∙◌, arith, append-nil, get_or}
 use Rattle.std.specs.Prelude.{Result, OnOk, reverse}
-use Rattle.std.specs.List.Sorted.{ties, IsNonDecreasingBy, IsStableByKey}
+use Rattle.std.specs.List.Sorted.{ties, IsNonDecreasingBy, IsSortedByKeyClosure, IsStableByKey, IsStableByKeyClosure}
 use Rattle.std.proofs.lemmas.List.Elements.{filter-append}
+use Rattle.std.proofs.lemmas.Fn.{always_returns_same}
 use Rattle.std.proofs.lemmas.Grind.{reverse_onto}
+use Rattle.std.proofs.lemmas.List.Sorted.{IsNonDecreasingBy-from_sort_by_key}
+use Rattle.std.proofs.lemmas.Result.{on_ok_weaker}
+use Rattle.std.specs.Fn.{Called}
+use denote.Param.Members.{Mut}
 use Rattle.ql_forms.specs.Form.{Form}
 use Rattle.std.specs.Ordering.{is_lt, nat_cmp}
 use Rattle.std.proofs.lemmas.Bool.Decides.{nat_tests}
@@ -37,9 +42,9 @@ module _ {X : Type 0} (n : X → ℕ) where
   no_less_with : (k : ℕ) (x : X) (ys : List X) → k ≤ n x → NoLess k ys → NoLess k (with_item x ys)
   no_less_with k x [] h r = (h, tt)
   no_less_with k x (y ∷ ys) h r = elim (nat_lt (n x) (n y)) as (λ b. NoLess k (cond b (x ∷ (y ∷ ys)) (y ∷ with_item x ys))) [
-      | true ↦ (h, r)
-      | false ↦ (r.0, no_less_with k x ys h r.1)
-    ]
+    | true ↦ (h, r)
+    | false ↦ (r.0, no_less_with k x ys h r.1)
+  ]
 
   no_less_under : (j k : ℕ) (ys : List X) → j ≤ k → NoLess k ys → NoLess j ys
   no_less_under j k [] h r = tt
@@ -79,6 +84,7 @@ module _ {X : Type 0} (n : X → ℕ) where
           let none : filter (ties lt z) (y ∷ ys) ≡ [] = none_tied z (n y) (y ∷ ys) (subst (λ k. k < n y) (sym (tie z x e)) h) (omega arith, r.0) in
           rw (e, none) refl
       before false e h = rw e (sym (append-nil (filter (ties lt z) (y ∷ ys))))
+
       by : (b : Bool) → nat_lt (n x) (n y) ≡ b → filter (ties lt z) (with_item x ys) ≡ filter (ties lt z) ys ++ filter (ties lt z) (x ∷ [])
           → filter (ties lt z) (cond b (x ∷ (y ∷ ys)) (y ∷ with_item x ys)) ≡ filter (ties lt z) (y ∷ ys) ++ filter (ties lt z) (x ∷ [])
       by true e later = before (ties lt z x) refl (less x y e)
@@ -149,7 +155,16 @@ module _ {X : Type 0} (n : X → ℕ) where
     sorted_is (x ∷ xs) = rw (sorted_is xs) (with_datum_is x (sorted xs))
 
     -- A stable sort of the reversed list is the order of the source.
-    pub stable_sort_is : (old new : List X) → IsNonDecreasingBy n new → IsStableByKey n nat_cmp (reverse old) new → map as_datum new ≡ in_source_order (map as_datum old)
+    stable_sort_is : (old new : List X) → IsNonDecreasingBy n new → IsStableByKey n nat_cmp (reverse old) new → map as_datum new ≡ in_source_order (map as_datum old)
     stable_sort_is old new up stable =
         let same : new ≡ sorted old = same_by_ties new (sorted old) (rises_of new up) (sorted_rises old) (λ x. stable x ∙ sym (filter_sorted x old)) in
         ap (map as_datum) same ∙ sym (sorted_is old)
+
+    -- So it is for the sort by a closure that gives the number.
+    pub closure_sort_is : {F T E : Type 0} {g : Mut F (Bor X × Unit {0}) ℕ} {key : F} (r : Result T E) (old back new : List X) → back ≡ reverse old
+        → IsStableByKeyClosure g nat_cmp key back new → OnOk r (IsSortedByKeyClosure g nat_cmp key new)
+        → ((a : Bor X × Unit {0}) (k : ℕ) (after : F) → Called g key a k after → (k ≡ n a.0.now) × (after ≡ key))
+        → OnOk r (map as_datum new ≡ in_source_order (map as_datum old))
+    closure_sort_is {g = g} {key = key} r old back new e stable up gives =
+        let kept : IsStableByKey n nat_cmp back new = stable n (always_returns_same g (λ a k. k ≡ n a.0.now) key gives) in
+        on_ok_weaker r (λ (u : IsSortedByKeyClosure g nat_cmp key new). stable_sort_is old new (IsNonDecreasingBy-from_sort_by_key n new u gives) (subst (λ xs. IsStableByKey n nat_cmp xs new) e kept)) up

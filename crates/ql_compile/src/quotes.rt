@@ -1,4 +1,5 @@
-//! The quoted data of a program as words and pairs.
+//! The quoted data of a program as words and pairs: which data there are, in the order of the source,
+//! and what they are made of.
 
 ghost use Rattle.std.specs.Prelude.{◌≡◌, ℕ, IfOk, OnOk, map};
 ghost use Rattle.ql_expand.specs.ProgramView.{program_of};
@@ -84,6 +85,7 @@ impl Quotes {
     }
 }
 
+// Nil is the first of the reserved words.
 const NIL: Word = Word::Sym(0);
 
 // Keeps the word of the datum at this offset, unless one is known.
@@ -97,6 +99,7 @@ fn keep_first(words: &mut IndexMap<u64, Word>, at: u64, word: Word) -> Result<()
     Ok(())
 }
 
+// The word of an atom.
 fn atom_word(atom: Atom) -> Word
     ensures { result ≡ atom_word (atom_of atom) }
 {
@@ -106,6 +109,7 @@ fn atom_word(atom: Atom) -> Word
     }
 }
 
+// The word that a list ends with.
 fn tail_word(tail: Option<Atom>) -> Word
     ensures { result ≡ tail_word (tail_of tail) }
 {
@@ -117,11 +121,7 @@ fn tail_word(tail: Option<Atom>) -> Word
 
 // The word of a datum. Its pairs come after those that are there.
 #[cycle(quoted)]
-fn put_form(
-    alloc: Global,
-    pairs: &mut Vec<(Word, Word)>,
-    form: &Form,
-) -> Result<Word, AllocError>
+fn put_form(alloc: Global, pairs: &mut Vec<(Word, Word)>, form: &Form) -> Result<Word, AllocError>
     ensures { IfOk result (λ w. (pairs.new.items, w) ≡ quoted (form_of form.now) pairs.old.items) }
 {
     match form {
@@ -153,12 +153,8 @@ fn put_items(
     Ok(list)
 }
 
-// Makes a pair.
-fn put_pair(
-    pairs: &mut Vec<(Word, Word)>,
-    first: Word,
-    rest: Word,
-) -> Result<Word, AllocError>
+// Makes a pair, whose number is how many there are before it.
+fn put_pair(pairs: &mut Vec<(Word, Word)>, first: Word, rest: Word) -> Result<Word, AllocError>
     ensures { IfOk result (λ w. (pairs.new.items, w) ≡ with_pair first (pairs.old.items, rest)) }
 {
     // More pairs than numbers are more than there is memory for.
@@ -169,8 +165,7 @@ fn put_pair(
     Ok(Word::Pair(number))
 }
 
-// The data of a program that are lists, in the order of the source. With equal offsets the later one of the walk comes
-// first.
+// The data of a program that are lists, in the order of the source.
 fn program_data<'a>(alloc: Global, program: &Program<'a>) -> Result<Vec<&'a Form>, AllocError>
     ensures { IfOk result (λ found. data_at found.items ≡ all_data (program_of program.now)) }
 {
@@ -181,15 +176,16 @@ fn program_data<'a>(alloc: Global, program: &Program<'a>) -> Result<Vec<&'a Form
     Ok(found)
 }
 
-// Data in the order of the source.
+// Puts data in the order of the source. With equal offsets the later one comes first.
 fn sort_data(found: &mut Vec<&Form>) -> Result<(), AllocError>
     ensures { OnOk result (data_at found.new.items ≡ in_source_order (data_at found.old.items)) }
 {
-    // The sort is stable, so equal offsets stay reversed.
+    // The sort is stable, so those with equal offsets stay reversed.
     found.reverse();
     found.sort_by_key(|form| form.offset().0)
 }
 
+// These functions walk through a program, and add each datum as they come to it.
 fn put_functions_data<'a>(
     found: &mut Vec<&'a Form>,
     functions: &[Function<'a>],
