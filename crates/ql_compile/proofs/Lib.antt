@@ -16,8 +16,10 @@ mod Fitting
 mod Follows
 mod Gives
 mod Goes
+mod Linked
 mod Noted
 mod ProgramIsFine
+mod Quoting
 mod Relation
 mod Right
 mod Scopes
@@ -27,6 +29,7 @@ mod Sizes
 mod SlotKinds
 mod Slotted
 mod SoundExamples
+mod SourceOrder
 mod Stacks
 mod Strict
 mod Unwinds
