@@ -1,3 +1,5 @@
 mod Emission
+mod Measure
+mod Named
 pub mod Compile
 pub mod Laws
