@@ -16,6 +16,7 @@ mod Fitting
 mod Follows
 mod Gives
 mod Goes
+mod Measuring
 mod Noted
 mod ProgramIsFine
 mod Relation

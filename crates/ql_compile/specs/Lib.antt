@@ -1,5 +1,5 @@
-mod Emission
-mod Measure
-mod Named
+pub mod Emission
+pub mod Measure
+pub mod Named
 pub mod Compile
 pub mod Laws

@@ -101,11 +101,9 @@ impl Meter {
         ensures { self.new ≡ counted self.old (offsets_of_node at.0 (node_of node.now)) }
     {
         match node {
-            Node::Const(_) | Node::Var(_) => self.step(at),
-            Node::Setq { value, .. } | Node::Defvar { value, .. } => {
-                self.core(value.get());
-                self.step(at);
-            }
+            Node::Const(_) => self.step(at),
+            Node::Var(_) => self.step(at),
+            Node::Setq { value, .. } => self.operator(at, value.get()),
             Node::If { test, then, other } => {
                 self.core(test.get());
                 self.step(at);
@@ -116,16 +114,15 @@ impl Meter {
             Node::Progn(forms) => self.forms(at, forms.as_slice()),
             Node::Let { binds, body } => {
                 self.values(binds.as_slice());
-                self.step(at);
-                self.core(body.get());
-                self.step(at);
+                self.around(at, body.get());
             }
-            Node::Prim { args, .. } | Node::Call { args, .. } => {
+            Node::Prim { args, .. } => {
                 self.cores(args.as_slice());
                 self.step(at);
             }
-            Node::Print(form) => {
-                self.core(form.get());
+            Node::Print(form) => self.operator(at, form.get()),
+            Node::Call { args, .. } => {
+                self.cores(args.as_slice());
                 self.step(at);
             }
             Node::Funcall { ignored, fun, args } => {
@@ -136,7 +133,7 @@ impl Meter {
                     self.step(at);
                 }
             }
-            Node::Lambda { body, .. } => self.closure(at, body.get()),
+            Node::Lambda { body, .. } => self.around(at, body.get()),
             Node::Qlet { prop, binds, body } => {
                 self.core(prop.get());
                 self.step(at);
@@ -144,38 +141,44 @@ impl Meter {
                 // Where the values were got in order, it jumps over the touch.
                 self.step(at);
                 self.step(at);
-                self.step(at);
-                self.core(body.get());
-                self.step(at);
+                self.around(at, body.get());
             }
             Node::Qlambda { prop, body, .. } => {
                 self.core(prop.get());
-                self.closure(at, body.get());
+                self.around(at, body.get());
             }
-            Node::Catch { tag, body } | Node::Qcatch { tag, body } => {
+            Node::Catch { tag, body } => {
                 self.core(tag.get());
-                self.step(at);
-                self.core(body.get());
-                self.step(at);
+                self.around(at, body.get());
+            }
+            Node::Qcatch { tag, body } => {
+                self.core(tag.get());
+                self.around(at, body.get());
             }
             Node::Throw { tag, value } => {
                 self.core(tag.get());
-                self.core(value.get());
-                self.step(at);
+                self.operator(at, value.get());
             }
             Node::Protect { value, cleanup } => {
-                self.step(at);
-                self.core(value.get());
-                self.step(at);
-                self.core(cleanup.get());
-                self.step(at);
+                self.around(at, value.get());
+                self.operator(at, cleanup.get());
             }
+            Node::Defvar { value, .. } => self.operator(at, value.get()),
         }
     }
 
-    // A closure and its body.
+    // An operator after its operand.
     #[cycle(walk)]
-    fn closure(&mut self, at: Offset, body: &Core)
+    fn operator(&mut self, at: Offset, operand: &Core)
+        ensures { self.new ≡ counted self.old (offsets_of (core_of operand.now) ++ at.0 ∷ []) }
+    {
+        self.core(operand);
+        self.step(at);
+    }
+
+    // A body between two instructions.
+    #[cycle(walk)]
+    fn around(&mut self, at: Offset, body: &Core)
         ensures { self.new ≡ counted self.old (at.0 ∷ (offsets_of (core_of body.now) ++ at.0 ∷ [])) }
     {
         self.step(at);
