@@ -1,10 +1,29 @@
--- How instructions are counted.
-use Rattle.std.proofs.Common.{◌≡◌, ◌∙◌, ℕ, List, [], ◌∷◌, ◌++◌, refl, ap, sym}
-use Rattle.ql_expand.specs.View.{core_of, cores_of}
-use Rattle.ql_expand.specs.declared.core_form.Core.{Core}
-use Rattle.ql_meaning.specs.Context.{offset_of}
-use Rattle.ql_compile.specs.Measure.{counted, offsets_of, offsets_of_forms, with_one}
+-- How instructions are counted, and that these are those of the code.
+use Rattle.std.proofs.Common.{◌≡◌, ◌∙◌, ℕ, zero, suc, ◌+◌, ◌≤◌, ◌<◌, ◌⊎◌, inl, inr, ⊎_elim, true, false, nat_lt, List, [], ◌∷◌, ◌++◌, length, map, Option, Some, None, refl, ap, sym, subst, arith, length-append}
+use Rattle.std.specs.Prelude.{option_map, slice_get}
+use Rattle.std.proofs.lemmas.List.{length-map, map-append}
+use Rattle.std.proofs.lemmas.Bool.Decides.{nat_tests}
+use Rattle.ql_base.specs.declared.numbers.Offset.{Offset}
+use Rattle.ql_expand.specs.Core as core
+use Rattle.ql_expand.specs.Core.{Core, Node, constant, variable, setq, conditional, progn, binding, primitive, lambda, defvar, Cores, no_cores, and_core, Bounds, no_bounds, and_bound, Function, function, Program, program}
+use Rattle.ql_expand.specs.View.{core_of, cores_of, node_of, node_step, bound_step, core_step}
+use Rattle.ql_expand.specs.declared.core_form.Core as declared
+use Rattle.ql_expand.specs.declared.core_form.Node.{fold-roll-Node}
+use Rattle.ql_expand.specs.declared.core_form.Node.TheOpen.{Node-F}
+use Rattle.ql_expand.specs.declared.core_form.Node.TheViews as view
+use Rattle.ql_scope.specs.Scope.{binders_in}
+use Rattle.ql_meaning.specs.Context.{Context, context_of, offset_of, stored_among}
+use Rattle.ql_code.specs.Code.{Instruction, instruction}
+use Rattle.ql_compile.specs.Compile.{Scope, Places, size, size_of_values, size_of_joined, size_of_tops, size_of_function, code, code_of_node, code_of_cores, code_of_forms, code_of_values, code_of_joined, code_of_tops, code_of_functions, body_scope, with_variables, instructions_of, places_from, places_of}
+use Rattle.ql_compile.specs.Measure.{counted, offsets_of, offsets_of_cores, offsets_of_forms, offsets_of_functions, offsets_of_joined, offsets_of_node, offsets_of_tops, offsets_of_values, with_one}
 use Rattle.ql_compile.specs.declared.measure.Meter.{Meter}
+use Rattle.ql_compile.proofs.Sizes.{long}
+
+pub prim_is : (o : ℕ) (cs : List declared.Core) → node_of (view.Prim o cs) ≡ primitive o (cores_of cs)
+unfolding Rattle.ql_expand.specs.declared.core_form.Node.TheViews.roll-Node denote.Hole.Carrier.roll
+prim_is o cs = fold-roll-Node core.Node (core.Binder × core.Core) core.Core node_step bound_step core_step (Node-F.Prim o cs)
+
+-- ---- counting
 
 pub counted_append : (m : Meter) (xs ys : List ℕ) → counted m (xs ++ ys) ≡ counted (counted m xs) ys
 counted_append m [] ys = refl
@@ -18,6 +37,127 @@ pub counted_step : (m n k w : Meter) (xs ys : List ℕ) (at : ℕ) → n ≡ cou
 counted_step m n k w xs ys at e f whole = ap (λ k. counted k ys) f ∙ counted_next m n w xs (at ∷ ys) e whole
 
 -- where one more form comes, the one before it has a drop
-pub forms_more : (at : ℕ) (c l : Core) (cs : List Core) → offsets_of_forms at (cores_of (c ∷ cs ++ l ∷ [])) ≡ offsets_of (core_of c) ++ offset_of (core_of c) ∷ offsets_of_forms at (cores_of (cs ++ l ∷ []))
+pub forms_more : (at : ℕ) (c l : declared.Core) (cs : List declared.Core) → offsets_of_forms at (cores_of (c ∷ cs ++ l ∷ [])) ≡ offsets_of (core_of c) ++ offset_of (core_of c) ∷ offsets_of_forms at (cores_of (cs ++ l ∷ []))
 forms_more at c l [] = refl
 forms_more at c l (d ∷ cs) = refl
+
+one_within : (m : Meter) (at : ℕ) → m.count < 65535 → with_one m at ≡ record m { count = m.count + 1 }
+one_within m at h = let t : nat_lt m.count 65535 ≡ true = grind (arith, nat_tests) in rw t refl
+
+one_over : (m : Meter) (at : ℕ) → m.count ≡ 65535 → m.over ≡ None → with_one m at ≡ record m { over = Some (record { 0 = at }) }
+one_over m at h e = let t : nat_lt m.count 65535 ≡ false = grind (arith, nat_tests) in rw (t, e) refl
+
+-- As many as there may be are counted.
+pub within : (m : Meter) (os : List ℕ) → m.over ≡ None → m.count + length os ≤ 65535 → counted m os ≡ record { count = m.count + length os; over = None }
+within m [] e h = let none : m.count ≡ m.count + 0 = omega arith in λ i. record { count = none i; over = e i }
+within m (at ∷ os) e h =
+    let more : m.count + 1 + length os ≡ m.count + length (at ∷ os) = omega arith in
+    ap (λ k. counted k os) (one_within m at (omega arith))
+    ∙ (within (record m { count = m.count + 1 }) os e (omega arith) ∙ ap (λ n. record { count = n; over = None }) more)
+
+stays : (m : Meter) (os : List ℕ) (o : Offset) → m.count ≡ 65535 → m.over ≡ Some o → (counted m os).over ≡ Some o
+stays m [] o h e = e
+stays m (at ∷ os) o h e =
+    let t : nat_lt m.count 65535 ≡ false = grind (arith, nat_tests) in
+    let same : with_one m at ≡ record m { over = Some o } = rw (t, e) refl in
+    ap (λ k. (counted k os).over) same ∙ stays (record m { over = Some o }) os o h refl
+
+-- The first that is too many is the one that there is no room for.
+pub over_is : (m : Meter) (os : List ℕ) (room : ℕ) → m.over ≡ None → m.count + room ≡ 65535 → (counted m os).over ≡ option_map (λ at. record { 0 = at }) (slice_get os room)
+over_is m [] room e h = e
+over_is m (at ∷ os) zero e h =
+    let full : m.count ≡ 65535 = omega arith in
+    ap (λ k. (counted k os).over) (one_over m at full e) ∙ stays (record m { over = Some (record { 0 = at }) }) os (record { 0 = at }) full refl
+over_is m (at ∷ os) (suc room) e h =
+    ap (λ k. (counted k os).over) (one_within m at (omega arith)) ∙ over_is (record m { count = m.count + 1 }) os room e (omega arith)
+
+-- ---- the instructions of the code
+
+abbrev pub ats : List Instruction → List ℕ
+ats is = map (λ i. i.at) is
+
+both : (is js : List Instruction) (os ps : List ℕ) → ats is ≡ os → ats js ≡ ps → ats (is ++ js) ≡ os ++ ps
+both is js os ps e f = map-append (λ (i : Instruction). i.at) is js ∙ (ap (λ xs. xs ++ ats js) e ∙ ap (λ xs. os ++ xs) f)
+
+then : (at : ℕ) (os ps : List ℕ) → os ≡ ps → at ∷ os ≡ at ∷ ps
+then at os ps e = ap (λ xs. at ∷ xs) e
+
+module _ (x : Context) (places : Places) where
+  mutual
+    pub ats_of : (sc : Scope) (pc : ℕ) (c : Core) → ats (code x places sc pc c) ≡ offsets_of c
+    ats_of sc pc (core.core at n) = ats_of_node sc pc at n
+
+    ats_of_node : (sc : Scope) (pc at : ℕ) (n : Node) → ats (code_of_node x places sc pc at n) ≡ offsets_of_node at n
+    ats_of_node sc pc at (constant f) = refl
+    ats_of_node sc pc at (variable y) = refl
+    ats_of_node sc pc at (setq y o c) = both _ _ _ _ (ats_of sc pc c) refl
+    ats_of_node sc pc at (conditional a b c) =
+        both _ _ _ _ (ats_of sc pc a) (then at _ _ (both _ _ _ _ (ats_of sc (pc + size a + 1) b) (then at _ _ (ats_of sc (pc + size a + 1 + size b + 1) c))))
+    ats_of_node sc pc at (progn cs) = ats_of_forms sc pc at cs
+    ats_of_node sc pc at (binding bs c) =
+        both _ _ _ _ (ats_of_values sc pc bs)
+        (then at _ _ (both _ _ _ _ (ats_of (with_variables (binders_in bs) (stored_among x (binders_in bs)) sc) (pc + size_of_values bs + 1) c) refl))
+    ats_of_node sc pc at (primitive o cs) = both _ _ _ _ (ats_of_cores sc pc cs) refl
+    ats_of_node sc pc at (core.print c) = both _ _ _ _ (ats_of sc pc c) refl
+    ats_of_node sc pc at (core.call f o cs) = both _ _ _ _ (ats_of_cores sc pc cs) refl
+    ats_of_node sc pc at (core.funcall true c cs) = both _ _ _ _ (ats_of sc pc c) (both _ _ _ _ (ats_of_cores (None ∷ sc) (pc + size c) cs) refl)
+    ats_of_node sc pc at (core.funcall false c cs) = both _ _ _ _ (ats_of sc pc c) (both _ _ _ _ (ats_of_cores (None ∷ sc) (pc + size c) cs) refl)
+    ats_of_node sc pc at (lambda ps c) = then at _ _ (both _ _ _ _ (ats_of (body_scope x sc ps c) (pc + 1) c) refl)
+    ats_of_node sc pc at (core.qlet p bs c) =
+        both _ _ _ _ (ats_of sc pc p) (then at _ _ (both _ _ _ _ (ats_of_joined sc (pc + size p + 1) bs) (then at _ _ (then at _ _ (then at _ _
+        (both _ _ _ _ (ats_of (with_variables (binders_in bs) (stored_among x (binders_in bs)) sc) (pc + size p + 1 + size_of_joined bs + 1 + 2) c) refl))))))
+    ats_of_node sc pc at (core.qlambda p ps c) =
+        both _ _ _ _ (ats_of sc pc p) (then at _ _ (both _ _ _ _ (ats_of (body_scope x sc ps c) (pc + size p + 1) c) refl))
+    ats_of_node sc pc at (core.catch a b) = both _ _ _ _ (ats_of sc pc a) (then at _ _ (both _ _ _ _ (ats_of sc (pc + size a + 1) b) refl))
+    ats_of_node sc pc at (core.qcatch a b) = both _ _ _ _ (ats_of sc pc a) (then at _ _ (both _ _ _ _ (ats_of sc (pc + size a + 1) b) refl))
+    ats_of_node sc pc at (core.throw a b) = both _ _ _ _ (ats_of sc pc a) (both _ _ _ _ (ats_of (None ∷ sc) (pc + size a) b) refl)
+    ats_of_node sc pc at (core.protect a b) =
+        then at _ _ (both _ _ _ _ (ats_of sc (pc + 1) a) (then at _ _ (both _ _ _ _ (ats_of (None ∷ sc) (pc + 1 + size a + 1) b) refl)))
+    ats_of_node sc pc at (defvar l o c) = both _ _ _ _ (ats_of sc pc c) refl
+
+    ats_of_cores : (sc : Scope) (pc : ℕ) (cs : Cores) → ats (code_of_cores x places sc pc cs) ≡ offsets_of_cores cs
+    ats_of_cores sc pc no_cores = refl
+    ats_of_cores sc pc (and_core c cs) = both _ _ _ _ (ats_of sc pc c) (ats_of_cores (None ∷ sc) (pc + size c) cs)
+
+    ats_of_values : (sc : Scope) (pc : ℕ) (bs : Bounds) → ats (code_of_values x places sc pc bs) ≡ offsets_of_values bs
+    ats_of_values sc pc no_bounds = refl
+    ats_of_values sc pc (and_bound b c bs) = both _ _ _ _ (ats_of sc pc c) (ats_of_values (None ∷ sc) (pc + size c) bs)
+
+    ats_of_joined : (sc : Scope) (pc : ℕ) (bs : Bounds) → ats (code_of_joined x places sc pc bs) ≡ offsets_of_joined bs
+    ats_of_joined sc pc no_bounds = refl
+    ats_of_joined sc pc (and_bound b c bs) = both _ _ _ _ (ats_of sc pc c) (then (offset_of c) _ _ (ats_of_joined (None ∷ sc) (pc + size c + 1) bs))
+
+    ats_of_forms : (sc : Scope) (pc at : ℕ) (cs : Cores) → ats (code_of_forms x places sc pc at cs) ≡ offsets_of_forms at cs
+    ats_of_forms sc pc at no_cores = refl
+    ats_of_forms sc pc at (and_core c no_cores) = ats_of sc pc c
+    ats_of_forms sc pc at (and_core c (and_core d ds)) = both _ _ _ _ (ats_of sc pc c) (then (offset_of c) _ _ (ats_of_forms sc (pc + size c + 1) at (and_core d ds)))
+
+  ats_of_tops : (pc : ℕ) (cs : Cores) → ats (code_of_tops x places pc cs) ≡ offsets_of_tops cs
+  ats_of_tops pc no_cores = refl
+  ats_of_tops pc (and_core c cs) = both _ _ _ _ (ats_of [] pc c) (then (offset_of c) _ _ (ats_of_tops (pc + size c + 1) cs))
+
+  ats_of_functions : (pc : ℕ) (fs : List Function) → ats (code_of_functions x places (places_from pc fs)) ≡ offsets_of_functions fs
+  ats_of_functions pc [] = refl
+  ats_of_functions pc (function at l o ps c ∷ fs) = ?
+
+-- the context of no program
+abbrev nowhere : Context
+nowhere = record { functions = []; globals = []; stored = []; quotes = [] }
+
+pub offsets_long : (c : Core) → length (offsets_of c) ≡ size c
+offsets_long c =
+    let is = code nowhere [] [] 0 c in
+    ap length (sym (ats_of nowhere [] [] 0 c)) ∙ (length-map is (λ (i : Instruction). i.at) ∙ long nowhere [] [] 0 c)
+
+pub tops_long : (cs : Cores) → length (offsets_of_tops cs) ≡ size_of_tops cs
+tops_long no_cores = refl
+tops_long (and_core c cs) = omega (arith, length-append {A = ℕ}, offsets_long c, tops_long cs)
+
+-- the offsets of a program's instructions
+abbrev pub offsets_of_program : Program → List ℕ
+offsets_of_program (program fs globals cs) = offsets_of_tops cs ++ 0 ∷ offsets_of_functions fs
+
+pub ats_of_program : (x : Context) (p : Program) → ats (instructions_of x (places_of p) p) ≡ offsets_of_program p
+ats_of_program x (program fs globals cs) =
+    let places = places_of (program fs globals cs) in
+    both _ _ _ _ (ats_of_tops x places 0 cs) (then 0 _ _ (ats_of_functions x places (size_of_tops cs + 1) fs))
