@@ -1,7 +1,8 @@
 -- How instructions are counted, and that these are those of the code.
-use Rattle.std.proofs.Common.{◌≡◌, ◌∙◌, ℕ, zero, suc, ◌+◌, ◌≤◌, ◌<◌, ◌⊎◌, inl, inr, ⊎_elim, true, false, nat_lt, List, [], ◌∷◌, ◌++◌, length, map, Option, Some, None, refl, ap, sym, subst, arith, length-append}
+use Rattle.std.proofs.Common.{◌≡◌, ◌∙◌, ℕ, zero, suc, ◌+◌, ◌≤◌, ◌<◌, ◌⊎◌, inl, inr, ⊎_elim, true, false, nat_lt, List, [], ◌∷◌, ◌++◌, length, map, Option, Some, None, refl, ap, sym, subst, arith, length-append, append_assoc, get_or}
 use Rattle.std.specs.Prelude.{option_map, slice_get}
 use Rattle.std.proofs.lemmas.List.{length-map, map-append}
+use Rattle.std.proofs.lemmas.Option.{slice_get-map, slice_get_cases}
 use Rattle.std.proofs.lemmas.Bool.Decides.{nat_tests}
 use Rattle.ql_base.specs.declared.numbers.Offset.{Offset}
 use Rattle.ql_expand.specs.Core as core
@@ -14,7 +15,8 @@ use Rattle.ql_expand.specs.declared.core_form.Node.TheViews as view
 use Rattle.ql_scope.specs.Scope.{binders_in}
 use Rattle.ql_meaning.specs.Context.{Context, context_of, offset_of, stored_among}
 use Rattle.ql_code.specs.Code.{Instruction, instruction}
-use Rattle.ql_compile.specs.Compile.{Scope, Places, size, size_of_values, size_of_joined, size_of_tops, size_of_function, code, code_of_node, code_of_cores, code_of_forms, code_of_values, code_of_joined, code_of_tops, code_of_functions, body_scope, with_variables, instructions_of, places_from, places_of}
+use Rattle.ql_compile.specs.Laws.{IsTooLong}
+use Rattle.ql_compile.specs.Compile.{compiled, Scope, Places, size, size_of_values, size_of_joined, size_of_tops, size_of_function, code, code_of_node, code_of_cores, code_of_forms, code_of_values, code_of_joined, code_of_tops, code_of_functions, body_scope, with_variables, instructions_of, places_from, places_of}
 use Rattle.ql_compile.specs.Measure.{counted, offsets_of, offsets_of_cores, offsets_of_forms, offsets_of_functions, offsets_of_joined, offsets_of_node, offsets_of_tops, offsets_of_values, with_one}
 use Rattle.ql_compile.specs.declared.measure.Meter.{Meter}
 use Rattle.ql_compile.proofs.Sizes.{long}
@@ -62,8 +64,11 @@ stays m (at ∷ os) o h e =
     let same : with_one m at ≡ record m { over = Some o } = rw (t, e) refl in
     ap (λ k. (counted k os).over) same ∙ stays (record m { over = Some o }) os o h refl
 
+abbrev as_offset : ℕ → Offset
+as_offset n = record { 0 = n }
+
 -- The first that is too many is the one that there is no room for.
-pub over_is : (m : Meter) (os : List ℕ) (room : ℕ) → m.over ≡ None → m.count + room ≡ 65535 → (counted m os).over ≡ option_map (λ at. record { 0 = at }) (slice_get os room)
+pub over_is : (m : Meter) (os : List ℕ) (room : ℕ) → m.over ≡ None → m.count + room ≡ 65535 → (counted m os).over ≡ option_map as_offset (slice_get os room)
 over_is m [] room e h = e
 over_is m (at ∷ os) zero e h =
     let full : m.count ≡ 65535 = omega arith in
@@ -138,7 +143,9 @@ module _ (x : Context) (places : Places) where
 
   ats_of_functions : (pc : ℕ) (fs : List Function) → ats (code_of_functions x places (places_from pc fs)) ≡ offsets_of_functions fs
   ats_of_functions pc [] = refl
-  ats_of_functions pc (function at l o ps c ∷ fs) = ?
+  ats_of_functions pc (function at l o ps c ∷ fs) =
+      both _ _ _ _ (both _ _ _ _ (ats_of (with_variables ps (stored_among x ps) []) pc c) refl) (ats_of_functions (pc + (size c + 1)) fs)
+      ∙ append_assoc (offsets_of c) (at ∷ []) (offsets_of_functions fs)
 
 -- the context of no program
 abbrev nowhere : Context
@@ -161,3 +168,93 @@ pub ats_of_program : (x : Context) (p : Program) → ats (instructions_of x (pla
 ats_of_program x (program fs globals cs) =
     let places = places_of (program fs globals cs) in
     both _ _ _ _ (ats_of_tops x places 0 cs) (then 0 _ _ (ats_of_functions x places (size_of_tops cs + 1) fs))
+
+-- ---- where functions begin
+
+-- These places, with those of the functions that are left, are all.
+pub record Going (m : Meter) (fs : List Function) (places whole : List ℕ) : Type 0 where
+  pub none_over : m.over ≡ None
+  pub few : m.count + length (offsets_of_functions fs) ≤ 65535
+  pub all : places ++ map (λ (f : Function × ℕ). f.1) (places_from m.count fs) ≡ whole
+
+pub functions_next : (m n k : Meter) (at l o : ℕ) (ps : List core.Binder) (c : Core) (fs : List Function) (old new whole : List ℕ)
+    → n ≡ counted m (offsets_of c) → k ≡ counted n (at ∷ []) → new ≡ old ++ m.count ∷ []
+    → Going m (function at l o ps c ∷ fs) old whole → Going k fs new whole
+functions_next m n k at l o ps c fs old new whole e f pushed g =
+    let long = length-append (offsets_of c) (at ∷ offsets_of_functions fs) in
+    let here = length-append (offsets_of c) (at ∷ []) in
+    let sized = offsets_long c in
+    let few = g.few in
+    let body : m.count + length (offsets_of c ++ at ∷ []) ≤ 65535 = omega (arith, long, here, few) in
+    let next : m.count + length (offsets_of c ++ at ∷ []) ≡ m.count + (size c + 1) = omega (arith, here, sized) in
+    let is : k ≡ record { count = m.count + (size c + 1); over = None } =
+    f ∙ (ap (λ j. counted j (at ∷ [])) e ∙ (sym (counted_append m (offsets_of c) (at ∷ [])) ∙ (within m (offsets_of c ++ at ∷ []) g.none_over body ∙ ap (λ j. record { count = j; over = None }) next))) in
+    let count : k.count ≡ m.count + (size c + 1) = ap (λ j. j.count) is in
+    record {
+      none_over = ap (λ j. j.over) is;
+      few = omega (arith, long, sized, few, count);
+      all = ap (λ xs. xs ++ map (λ (q : Function × ℕ). q.1) (places_from k.count fs)) pushed
+          ∙ (ap (λ j. (old ++ m.count ∷ []) ++ map (λ (q : Function × ℕ). q.1) (places_from j fs)) count
+          ∙ (append_assoc old (m.count ∷ []) (map (λ (q : Function × ℕ). q.1) (places_from (m.count + (size c + 1)) fs)) ∙ g.all));
+    }
+
+-- ---- the whole program
+
+-- All steps count the instructions of the program.
+pub whole_counted : (m a b c : Meter) (fs : List Function) (globals : List ℕ) (cs : Cores)
+    → a ≡ counted m (offsets_of_tops cs) → b ≡ counted a (0 ∷ []) → c ≡ counted b (offsets_of_functions fs) → c ≡ counted m (offsets_of_program (program fs globals cs))
+whole_counted m a b c fs globals cs e f g =
+    g ∙ (ap (λ k. counted k (offsets_of_functions fs)) f ∙ (ap (λ k. counted k (0 ∷ offsets_of_functions fs)) e ∙ sym (counted_append m (offsets_of_tops cs) (0 ∷ offsets_of_functions fs))))
+
+-- The code is too long, and where.
+pub over_told : (p : Program) (c : Meter) (at : Offset) → c ≡ counted (record { count = 0; over = None }) (offsets_of_program p) → c.over ≡ Some at → IsTooLong (compiled p) at.0
+over_told p c at e over =
+    let os = offsets_of_program p in
+    let is = instructions_of (context_of p) (places_of p) p in
+    let found : option_map as_offset (slice_get os 65535) ≡ Some at =
+    sym (over_is (record { count = 0; over = None }) os 65535 refl refl) ∙ (ap (λ m. m.over) (sym e) ∙ over) in
+    sym (slice_get-map (λ (i : Instruction). i.at) is 65535) ∙ (ap (λ xs. slice_get xs 65535) (ats_of_program (context_of p) p) ∙ opened_offset (slice_get os 65535) at found)
+  where
+    opened_offset : (o : Option ℕ) (at : Offset) → option_map as_offset o ≡ Some at → o ≡ Some at.0
+    opened_offset None at e = cc
+    opened_offset (Some n) at e = ap (option_map (λ (q : Offset). q.0)) e
+
+some_none : {X : Type 0} (o : Option X) (x : X) → o ≡ Some x → o ≡ None → ⊥
+some_none None x p q = cc
+some_none (Some y) x p q = cc
+
+no_more : {X : Type 0} (xs : List X) (n : ℕ) → slice_get xs n ≡ None → length xs ≤ n
+no_more {X = X} xs n e = by (slice_get_cases xs n).1
+  where
+    by : ((x : X) × (n < length xs) × (slice_get xs n ≡ Some x) × (get_or xs n x ≡ x)) ⊎ ((length xs ≤ n) × (slice_get xs n ≡ None)) → length xs ≤ n
+    by (inl h) = absurd (some_none (slice_get xs n) h.0 h.2 e)
+    by (inr h) = h.0
+
+-- The code is short.
+pub short_told : (p : Program) (c : Meter) → c ≡ counted (record { count = 0; over = None }) (offsets_of_program p) → c.over ≡ None → length (offsets_of_program p) ≤ 65535
+short_told p c e over =
+    no_more (offsets_of_program p) 65535 (closed_offset (slice_get (offsets_of_program p) 65535) (sym (over_is (record { count = 0; over = None }) (offsets_of_program p) 65535 refl refl) ∙ (ap (λ m. m.over) (sym e) ∙ over)))
+  where
+    closed_offset : (o : Option ℕ) → option_map as_offset o ≡ None → o ≡ None
+    closed_offset None e = refl
+    closed_offset (Some n) e = absurd cc
+
+pub as_long : (p : Program) → length (compiled p).instructions ≡ length (offsets_of_program p)
+as_long p = sym (length-map (compiled p).instructions (λ (i : Instruction). i.at)) ∙ ap length (ats_of_program (context_of p) p)
+
+-- The functions begin after the top forms and the end.
+pub base_is : (a b : Meter) (fs : List Function) (globals : List ℕ) (cs : Cores)
+    → a ≡ counted (record { count = 0; over = None }) (offsets_of_tops cs) → b ≡ counted a (0 ∷ []) → length (offsets_of_program (program fs globals cs)) ≤ 65535
+    → (b ≡ record { count = size_of_tops cs + 1; over = None }) × (b.count + length (offsets_of_functions fs) ≤ 65535)
+base_is a b fs globals cs e f h =
+    let tops = offsets_of_tops cs in
+    let long = length-append tops (0 ∷ offsets_of_functions fs) in
+    let base = length-append tops (0 ∷ []) in
+    let sized = tops_long cs in
+    let few : 0 + length (tops ++ 0 ∷ []) ≤ 65535 = omega (arith, long, base, h) in
+    let next : 0 + length (tops ++ 0 ∷ []) ≡ size_of_tops cs + 1 = omega (arith, base, sized) in
+    let is : b ≡ record { count = size_of_tops cs + 1; over = None } =
+    f ∙ (ap (λ k. counted k (0 ∷ [])) e ∙ (sym (counted_append (record { count = 0; over = None }) tops (0 ∷ []))
+    ∙ (within (record { count = 0; over = None }) (tops ++ 0 ∷ []) refl few ∙ ap (λ n. record { count = n; over = None }) next))) in
+    let count : b.count ≡ size_of_tops cs + 1 = ap (λ k. k.count) is in
+    (is, omega (arith, long, sized, h, count))
