@@ -29,5 +29,6 @@ mod SlotKinds
 mod SoundExamples
 mod Stacks
 mod Strict
+mod Tables
 mod Unwinds
 mod Wants

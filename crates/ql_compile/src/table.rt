@@ -20,7 +20,7 @@ pub fn functions_by_name(
 ) -> Result<Vec<Option<FunEntry>>, AllocError>
     ensures { (x : Context) (places : Places) → map (λ f. f.0) places ≡ map function_of functions.now → map (entry_of x) places ≡ entries.now → IfOk result (λ table. HasFunctions x places table.items) }
 {
-    let mut table = vec![in alloc; None; names as usize]?;
+    let mut table = Vec::with_capacity(alloc, names as usize)?;
     let mut rest = functions.len().min(entries.len());
     // From the last on, so that the first of a name stays.
     while rest > 0 {
@@ -38,7 +38,7 @@ pub fn globals_by_name(
 ) -> Result<Vec<Option<u32>>, AllocError>
     ensures { IfOk result (λ table. HasGlobals globals.now table.items) }
 {
-    let mut table = vec![in alloc; None; names as usize]?;
+    let mut table = Vec::with_capacity(alloc, names as usize)?;
     let mut rest = globals.len();
     while rest > 0 {
         rest -= 1;
