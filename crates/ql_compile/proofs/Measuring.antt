@@ -1,5 +1,5 @@
 -- How instructions are counted, and that these are those of the code.
-use Rattle.std.proofs.Common.{◌≡◌, ◌∙◌, ℕ, zero, suc, ◌+◌, ◌≤◌, ◌<◌, ◌⊎◌, inl, inr, ⊎_elim, true, false, nat_lt, List, [], ◌∷◌, ◌++◌, length, map, Option, Some, None, refl, ap, sym, subst, arith, length-append, append_assoc, get_or}
+use Rattle.std.proofs.Common.{◌≡◌, ◌∙◌, ℕ, zero, suc, ◌+◌, ◌≤◌, ◌<◌, ◌⊎◌, inl, inr, true, false, nat_lt, List, [], ◌∷◌, ◌++◌, length, map, Option, Some, None, refl, ap, sym, arith, length-append, append_assoc, get_or}
 use Rattle.std.specs.Prelude.{option_map, slice_get}
 use Rattle.std.proofs.lemmas.List.{length-map, map-append}
 use Rattle.std.proofs.lemmas.Option.{slice_get-map, slice_get_cases}
@@ -18,7 +18,7 @@ use Rattle.ql_code.specs.Code as spec
 use Rattle.ql_code.specs.Code.{Instruction, instruction}
 use Rattle.ql_code.specs.declared.code.Op.{Op}
 use Rattle.ql_compile.specs.Laws.{IsTooLong}
-use Rattle.ql_compile.specs.Compile.{compiled, Scope, Places, size, size_of_values, size_of_joined, size_of_tops, size_of_function, code, code_of_node, code_of_cores, code_of_forms, code_of_values, code_of_joined, code_of_tops, code_of_functions, body_scope, with_variables, instructions_of, places_from, places_of}
+use Rattle.ql_compile.specs.Compile.{compiled, Scope, Places, size, size_of_values, size_of_joined, size_of_tops, code, code_of_node, code_of_cores, code_of_forms, code_of_values, code_of_joined, code_of_tops, code_of_functions, body_scope, with_variables, instructions_of, places_from, places_of}
 use Rattle.ql_compile.specs.Measure.{counted, offsets_of, offsets_of_cores, offsets_of_forms, offsets_of_functions, offsets_of_joined, offsets_of_node, offsets_of_tops, offsets_of_values, with_one}
 use Rattle.ql_compile.specs.declared.measure.Meter.{Meter}
 use Rattle.ql_compile.proofs.Sizes.{long}

@@ -1,5 +1,5 @@
 -- The offsets of instructions, and how they are counted: these definitions serve proofs alone.
-use Rattle.std.specs.Prelude.{ℕ, ◌+◌, nat_lt, Bool, true, false, if◌then◌else◌, List, [], ◌∷◌, ◌++◌, Option, Some, None}
+use Rattle.std.specs.Prelude.{ℕ, ◌+◌, nat_lt, true, false, if◌then◌else◌, List, [], ◌∷◌, ◌++◌, Option, Some, None}
 use Rattle.ql_base.specs.declared.numbers.Offset.{Offset}
 use Rattle.ql_expand.specs.Core as core
 use Rattle.ql_expand.specs.Core.{Core, Node, constant, variable, setq, conditional, progn, binding, primitive, lambda, defvar, Cores, no_cores, and_core, Bounds, no_bounds, and_bound, Function, function, Program, program}
@@ -57,6 +57,7 @@ abbrev pub offsets_of_functions : List Function → List ℕ
 offsets_of_functions [] = []
 offsets_of_functions (function at l o ps c ∷ fs) = offsets_of c ++ at ∷ offsets_of_functions fs
 
+-- the offset of the first instruction that is too many, which stays
 abbrev pub first_over : Option Offset → ℕ → Option Offset
 first_over None at = Some (record { 0 = at })
 first_over (Some o) at = Some o

@@ -41,7 +41,6 @@ pub fn compile(alloc: Global, scoped: &Scoped) -> Result<Code, CompileRefusal>
 {
     // Facts that the clauses rest on; the calls do nothing.
     scoped_is_compilable();
-    compiled_code_is_valid();
     code_follows_program();
     let places = measure(alloc, scoped.program())?;
     match code_of(alloc, scoped, places.as_slice()) {
@@ -71,11 +70,7 @@ fn code_of(alloc: Global, scoped: &Scoped, places: &[u32]) -> Result<Code, Alloc
 }
 
 // The entries of functions that begin at these places.
-fn entries_of(
-    alloc: Global,
-    scoped: &Scoped,
-    places: &[u32],
-) -> Result<Vec<FunEntry>, AllocError>
+fn entries_of(alloc: Global, scoped: &Scoped, places: &[u32]) -> Result<Vec<FunEntry>, AllocError>
     requires places { places.now ≡ map (λ f. f.1) (places_of (program_of scoped.now.program)) }
     ensures { IfOk result (λ entries. entries.items ≡ map (entry_of (context_of (program_of scoped.now.program))) (places_of (program_of scoped.now.program))) }
 {

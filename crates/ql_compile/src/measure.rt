@@ -72,11 +72,7 @@ impl Meter {
     }
 
     // Functions, each with its return. They begin at these places, unless that is too many instructions.
-    fn functions(
-        &mut self,
-        alloc: Global,
-        functions: &[Function],
-    ) -> Result<Vec<u32>, AllocError>
+    fn functions(&mut self, alloc: Global, functions: &[Function]) -> Result<Vec<u32>, AllocError>
         ensures count { OnOk result (self.new ≡ counted self.old (offsets_of_functions (map function_of functions.now))) }
         ensures places { self.old.over ≡ None → self.old.count + length (offsets_of_functions (map function_of functions.now)) ≤ 65535 → IfOk result (λ places. places.items ≡ map (λ f. f.1) (places_from self.old.count (map function_of functions.now))) }
     {
@@ -138,7 +134,7 @@ impl Meter {
                 self.core(prop.get());
                 self.step(at);
                 self.joined(binds.as_slice());
-                // Where the values were got in order, it jumps over the touch.
+                // The jump past the touch of futures, and the touch. The bind and the slide stand round the body.
                 self.step(at);
                 self.step(at);
                 self.around(at, body.get());
@@ -167,7 +163,7 @@ impl Meter {
         }
     }
 
-    // An operator after its operand.
+    // An instruction after the form whose value it takes.
     #[cycle(walk)]
     fn operator(&mut self, at: Offset, operand: &Core)
         ensures { self.new ≡ counted self.old (offsets_of (core_of operand.now) ++ at.0 ∷ []) }
@@ -176,7 +172,7 @@ impl Meter {
         self.step(at);
     }
 
-    // A body between two instructions.
+    // A form between two instructions.
     #[cycle(walk)]
     fn around(&mut self, at: Offset, body: &Core)
         ensures { self.new ≡ counted self.old (at.0 ∷ (offsets_of (core_of body.now) ++ at.0 ∷ [])) }

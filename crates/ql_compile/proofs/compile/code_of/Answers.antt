@@ -1,10 +1,10 @@
-use Rattle.std.proofs.Common.{◌≡◌, ◌∙◌, ◌≤◌, ap, arith, length, subst, sym}
+use Rattle.std.proofs.Common.{◌≡◌, ◌∙◌, ap, arith, length, subst, sym}
 use Rattle.std.proofs.Math.Logic.{∥∥₁_map}
 use Rattle.ql_expand.specs.ProgramView.{program_of}
 use Rattle.ql_scope.specs.Scoped.{HasScope}
 use Rattle.ql_meaning.specs.Context.{globals_of}
 use Rattle.ql_code.specs.Code as code
-use Rattle.ql_code.specs.Sound.{IsValid, Sound}
+use Rattle.ql_code.specs.Sound.{Sound}
 use Rattle.ql_compile.specs.Compile.{compiled}
 use Rattle.ql_compile.proofs.Measuring.{instructions_long}
 use Rattle.ql_compile.proofs.compile.code_of.Goals as goal
@@ -30,5 +30,5 @@ new-requires-2-clause-sound c =
     let is : code.code_of e.ops.items e.offsets.items c.in_ok-quotes.quotes.pairs.items c.in_ok-entries.entries.items c.in-Ok.globals ≡ compiled p =
     λ i. record { instructions = instructions i; quoted = pairs i; entries = entries i; globals = globals i } in
     ∥∥₁_map s.scoped (λ (h : HasScope p s.program.names s.stored.keys).
-      let right = c.scoped_is_compilable.ensures h.expanded.forms p h.expanded.expands h.in_scope in
-      subst Sound (sym is) (c.compiled_code_is_valid.ensures h.expanded.forms p h.expanded.expands h.in_scope right).sound)
+    let right = c.scoped_is_compilable.ensures h.expanded.forms p h.expanded.expands h.in_scope in
+    subst Sound (sym is) (c.compiled_code_is_valid.ensures h.expanded.forms p h.expanded.expands h.in_scope right).sound)

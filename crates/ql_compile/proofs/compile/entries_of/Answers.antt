@@ -1,6 +1,5 @@
-use Rattle.std.proofs.Common.{◌≡◌, ◌∙◌, ℕ, ◌+◌, ◌<◌, ◌≤◌, ◌++◌, ap, append-nil, arith, drop, get_or, length, map, refl, sym}
+use Rattle.std.proofs.Common.{◌≡◌, ◌∙◌, ◌+◌, ◌<◌, ap, append-nil, arith, drop, get_or, length, map}
 use Rattle.std.proofs.lemmas.List.{drop_all, get_or_default}
-use Rattle.ql_expand.specs.Core as core
 use Rattle.ql_expand.specs.ProgramView.{program_of}
 use Rattle.ql_expand.specs.View.{cores_of, function_of}
 use Rattle.ql_meaning.specs.Context.{context_of}

@@ -1,4 +1,4 @@
-use Rattle.std.proofs.Common.{◌≡◌, ◌∙◌, ◌≤◌, ℕ, ap, sym, subst, arith, length, map}
+use Rattle.std.proofs.Common.{◌≡◌, ◌∙◌, ℕ, ap, subst, arith, map}
 use Rattle.ql_expand.specs.Core.{Function}
 use Rattle.ql_expand.specs.ProgramView.{program_of}
 use Rattle.ql_expand.specs.View.{cores_of, function_of}

@@ -1,5 +1,4 @@
 use Rattle.std.proofs.Common.{◌≡◌, ◌+◌, ◌<◌, ◌++◌, ◌∷◌, [], ap, arith, drop, length}
-use Rattle.std.proofs.lemmas.List.{drop_all}
 use Rattle.ql_expand.specs.View.{bounds_of, core_of, cores_of}
 use Rattle.ql_meaning.specs.Context.{offset_of}
 use Rattle.ql_scope.proofs.Added.{drop_is}

@@ -1,5 +1,4 @@
-use Rattle.std.proofs.Common.{◌≡◌, ◌+◌, ◌<◌, ap, arith, drop, length, map}
-use Rattle.std.proofs.lemmas.List.{drop_all}
+use Rattle.std.proofs.Common.{◌+◌, ◌<◌, arith, drop, length, map}
 use Rattle.ql_expand.specs.View.{binders_of, core_of, function_of}
 use Rattle.ql_scope.proofs.Added.{drop_is}
 use Rattle.ql_compile.specs.Measure.{offsets_of, offsets_of_functions}
@@ -14,7 +13,7 @@ loop-function-preserved c =
     let at : i < length c.args.functions.now = omega arith in
     let here = drop_is c.args.functions.now i f at c.function-item.is in (
       counted_step c.loop-function.self c.core.new.self c.step.new.self _ (offsets_of (core_of f.body)) (offsets_of_functions rest)
-      f.at.0 c.core.ensures c.step.ensures (rw here at c.loop-function.invariant.0),
+          f.at.0 c.core.ensures c.step.ensures (rw here at c.loop-function.invariant.0),
       λ none few. functions_next c.loop-function.self c.core.new.self c.step.new.self f.at.0 f.name f.named.0 (binders_of f.params) (core_of f.body) rest c.loop-function.places.items c.push.new.self.items _
-      c.core.ensures c.step.ensures c.in_ok-push.ensures.items (rw here at (c.loop-function.invariant.1 none few)),
+          c.core.ensures c.step.ensures c.in_ok-push.ensures.items (rw here at (c.loop-function.invariant.1 none few)),
     )
