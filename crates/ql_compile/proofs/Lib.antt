@@ -17,6 +17,7 @@ mod Follows
 mod Gives
 mod Goes
 mod Linked
+mod Measuring
 mod Noted
 mod ProgramIsFine
 mod Quoting
@@ -32,5 +33,6 @@ mod SoundExamples
 mod SourceOrder
 mod Stacks
 mod Strict
+mod Tables
 mod Unwinds
 mod Wants

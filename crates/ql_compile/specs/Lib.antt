@@ -1,4 +1,6 @@
-mod Emission
+pub mod Emission
+pub mod Measure
+pub mod Named
 pub mod Compile
 pub mod Emission
 pub mod Laws
