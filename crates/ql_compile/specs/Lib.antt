@@ -1,8 +1,7 @@
-pub mod Emission
-pub mod Measure
-pub mod Named
 pub mod Compile
 pub mod Emission
 pub mod Laws
+pub mod Measure
+pub mod Named
 pub mod Quoting
 pub mod Slots
