@@ -1,3 +1,4 @@
 mod Emission
 pub mod Compile
+pub mod Free
 pub mod Laws

@@ -1,6 +1,7 @@
 //! The slots of a frame, of which the last variable of each name is found at once.
 
-ghost use Rattle.std.specs.Prelude.{◌≡◌, ◌++◌, ◌∷◌, [], Some, None, IfOk, OnOk, length, option_map};
+ghost use Rattle.std.specs.Prelude.{◌≡◌, ◌++◌, ◌∷◌, [], Bool, Option, Some, None, IfOk, OnOk, length, option_map};
+ghost use Rattle.ql_expand.specs.Core.{Name};
 ghost use Rattle.ql_expand.specs.View.{binders_of, name_of};
 ghost use Rattle.ql_scope.specs.Stored.{is_binder_among};
 ghost use Rattle.ql_compile.specs.Compile.{Scope, find_in, with_variables};
@@ -74,6 +75,13 @@ impl Frame {
         ensures { (above below : Scope) → self.old ≡ above ++ below → len ≡ length below → self.new ≡ below }
     {
         self.slots.truncate(len);
+    }
+
+    /// The slot that is so many above the bottom.
+    pub fn slot(&self, at: usize) -> Option<(VarName, bool)>
+        ensures { (above below : Scope) (v : Option (Name × Bool)) → self.now ≡ above ++ v ∷ below → at ≡ length below → option_map (λ s. (name_of s.0, s.1)) result ≡ v }
+    {
+        None
     }
 
     /// Where the last variable of this name is.
