@@ -57,7 +57,7 @@ pub fn capture(
 
 // The last variable of each of these names, from the top of the frame down.
 fn take_named(alloc: Global, frame: &Frame, mut names: Names) -> Result<Vec<Taken>, AllocError>
-    ensures { IfOk result (λ taken. map caught_of taken.items ≡ caught frame.now names.entry) }
+    ensures { IfOk result (λ taken. map caught_of taken.items ≡ caught frame.now names) }
 {
     let mut taken = Vec::new(alloc);
     let mut at = frame.len();
