@@ -2,9 +2,9 @@
 use Rattle.std.proofs.Common.{◌≡◌, ◌⊎◌, ℕ, ◌==◌, Bool, true, false, not, List, [], ◌∷◌, ◌++◌, ◌+◌, ◌-◌, ◌<◌, zero, suc, arith, get_or, drop-cons, length, take, drop, map, append-nil, append_assoc, Option, Some, None, refl, ap, sym, ◌∙◌, subst, ⊎_elim}
 use Rattle.std.specs.Prelude.{◌||◌, ◌&&◌, if◌then◌else◌, Result, OnOk, reverse}
 use Rattle.std.specs.List.{list_any}
-use Rattle.std.proofs.Math.Seq.{take-append_seam}
+use Rattle.std.proofs.Math.Seq.{take-append_seam, drop-length}
 use Rattle.std.proofs.Math.Bool.{beq}
-use Rattle.std.proofs.lemmas.List.{map-append, take-append-drop, length-drop, reverse-append}
+use Rattle.std.proofs.lemmas.List.{map-append, take-append-drop, length-drop, reverse-append, reverse-reverse}
 use Rattle.std.proofs.lemmas.Result.{on_ok_weaker}
 use Rattle.ql_base.specs.declared.numbers.Offset.{Offset}
 use Rattle.ql_expand.specs.Core as spec
@@ -15,8 +15,9 @@ use Rattle.ql_expand.specs.declared.core_form.Node.{fold-roll-Node}
 use Rattle.ql_expand.specs.declared.core_form.Node.TheOpen.{Node-F}
 use Rattle.ql_expand.specs.declared.core_form.Node.TheViews as view
 use Rattle.ql_meaning.specs.Context.{same_name, name_of}
-use Rattle.ql_compile.specs.Compile.{Scope, is_name_among, without, without_all, caught}
-use Rattle.ql_compile.specs.Free.{named_by, with_name, with_names, Gathered, Gathers}
+use Rattle.ql_compile.specs.Compile.{Scope, is_name_among, without, without_all, caught, caught_slots}
+use Rattle.ql_compile.specs.declared.captured.Taken.{Taken}
+use Rattle.ql_compile.specs.Free.{caught_of, named_by, with_name, with_names, Gathered, Gathers}
 use Rattle.ql_compile.specs.declared.names.Key.{Key}
 use Rattle.ql_compile.proofs.Scopes.{cases, name_same, name_refl, binds_name}
 
@@ -324,3 +325,32 @@ pushed_all (c ∷ cs) sc =
 pub defvar_is : (n : ℕ) (at : Offset) (c : Core) → node_of (view.Defvar n at c) ≡ defvar n at.0 (core_of c)
 unfolding Rattle.ql_expand.specs.declared.core_form.Node.TheViews.roll-Node denote.Hole.Carrier.roll
 defvar_is n at c = fold-roll-Node spec.Node (spec.Binder × spec.Core) spec.Core node_step bound_step core_step (Node-F.Defvar n at c)
+
+pub nothing_lowest : (sc : Scope) (n : ℕ) → n ≡ 0 → lowest n sc ≡ []
+nothing_lowest sc n h = let all : length sc - n ≡ length sc = omega (arith, h) in ap (λ i. drop i sc) all ∙ drop-length sc
+
+pub no_names : (xs : List Name) → length xs ≡ 0 → xs ≡ []
+no_names [] h = refl
+no_names (x ∷ xs) h = absurd cc
+
+map_reverse : {X Y : Type 0} (f : X → Y) (xs : List X) → map f (reverse xs) ≡ reverse (map f xs)
+map_reverse f [] = refl
+map_reverse f (x ∷ xs) =
+    ap (map f) (reverse-append (x ∷ []) xs) ∙ (map-append f (reverse xs) (x ∷ [])
+    ∙ (ap (λ l. l ++ f x ∷ []) (map_reverse f xs) ∙ sym (reverse-append (f x ∷ []) (map f xs))))
+
+slots_caught : (ts : List Taken) → map (λ c. c.0) (map caught_of ts) ≡ map (λ (t : Taken). t.slot) ts
+slots_caught [] = refl
+slots_caught (t ∷ ts) = ap (λ l. t.slot ∷ l) (slots_caught ts)
+
+-- The captured variables, from the lowest on.
+module _ (ts us : List Taken) (sc : Scope) (xs ys : List Name) (turned : us ≡ reverse ts) (taken : map caught_of ts ≡ caught sc xs) (same : (x : Name) → is_name_among x xs ≡ is_name_among x ys) where
+  pub slots_are : map (λ (t : Taken). t.slot) us ≡ caught_slots (caught sc ys)
+  slots_are =
+      ap (map (λ (t : Taken). t.slot)) turned ∙ (map_reverse (λ (t : Taken). t.slot) ts
+      ∙ ap reverse (sym (slots_caught ts) ∙ ap (map (λ c. c.0)) (taken ∙ caught_same sc xs ys same)))
+
+  pub turned_back : reverse (map caught_of us) ≡ caught sc ys
+  turned_back =
+      ap (λ l. reverse (map caught_of l)) turned ∙ (ap reverse (map_reverse caught_of ts)
+      ∙ (reverse-reverse (map caught_of ts) ∙ (taken ∙ caught_same sc xs ys same)))
