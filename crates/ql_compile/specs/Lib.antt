@@ -1,5 +1,6 @@
 pub mod Compile
 pub mod Emission
+pub mod Free
 pub mod Laws
 pub mod Measure
 pub mod Named
