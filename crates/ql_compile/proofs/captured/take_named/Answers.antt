@@ -69,6 +69,6 @@ returns c =
     let sc = c.args.frame.now in
     let before = map caught_of c.loop-at.taken.items in
     let over : caught (lowest c.loop-at.at sc) c.loop-at.names ≡ [] =
-    elim c.loop-at-test.branch [ goal.then-loop-at-test+else-len-gt0 w ↦ ap (caught (lowest c.loop-at.at sc)) (no_names c.loop-at.names (omega (arith, w.len.ensures))) ∙ caught_none (lowest c.loop-at.at sc)
+    elim c.loop-at-test.branch [ goal.then-loop-at-test+else-not-is_empty w ↦ ap (caught (lowest c.loop-at.at sc)) (no_names c.loop-at.names (w.is_empty.ensures.0 w.if-not-is_empty.false)) ∙ caught_none (lowest c.loop-at.at sc)
     | goal.else-loop-at-test w ↦ ap (λ l. caught l c.loop-at.names) (nothing_lowest sc c.loop-at.at (omega arith)) ] in
     sym (append-nil before) ∙ (ap (λ cs. before ++ cs) (sym over) ∙ c.loop-at.invariant.1)
