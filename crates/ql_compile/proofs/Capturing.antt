@@ -1,5 +1,5 @@
 -- Sets of names, and what a closure captures.
-use Rattle.std.proofs.Common.{◌≡◌, ◌⊎◌, ℕ, ◌==◌, Bool, true, false, not, List, [], ◌∷◌, ◌++◌, ◌+◌, ◌-◌, ◌<◌, zero, suc, arith, get_or, drop-cons, length, take, drop, map, append-nil, append_assoc, Option, Some, None, refl, ap, sym, ◌∙◌, subst, ⊎_elim}
+use Rattle.std.proofs.Common.{◌≡◌, ℕ, ◌==◌, Bool, true, false, not, List, [], ◌∷◌, ◌++◌, ◌+◌, ◌-◌, ◌<◌, zero, suc, arith, get_or, drop-cons, length, take, drop, map, append-nil, append_assoc, Option, Some, None, refl, ap, sym, ◌∙◌, subst, ⊎_elim}
 use Rattle.std.specs.Prelude.{◌||◌, ◌&&◌, if◌then◌else◌, Result, OnOk, reverse}
 use Rattle.std.specs.List.{list_any}
 use Rattle.std.proofs.Math.Seq.{take-append_seam, drop-length}
@@ -14,12 +14,13 @@ use Rattle.ql_expand.specs.declared.core_form.Core.{Core}
 use Rattle.ql_expand.specs.declared.core_form.Node.{fold-roll-Node}
 use Rattle.ql_expand.specs.declared.core_form.Node.TheOpen.{Node-F}
 use Rattle.ql_expand.specs.declared.core_form.Node.TheViews as view
+use Rattle.ql_scope.proofs.Cases.{or_assoc, or_false}
 use Rattle.ql_meaning.specs.Context.{same_name, name_of}
 use Rattle.ql_compile.specs.Compile.{Scope, is_name_among, without, without_all, caught, caught_slots}
 use Rattle.ql_compile.specs.declared.captured.Taken.{Taken}
 use Rattle.ql_compile.specs.Free.{caught_of, named_by, with_name, with_names, Gathered, Gathers}
 use Rattle.ql_compile.specs.declared.names.Key.{Key}
-use Rattle.ql_compile.proofs.Scopes.{cases, name_same, name_refl, binds_name}
+use Rattle.ql_compile.proofs.Scopes.{cases, name_same, binds_name}
 
 name_sym : (x y : Name) → same_name x y ≡ same_name y x
 name_sym x y =
@@ -31,14 +32,6 @@ name_sym x y =
     (λ (u : same_name y x ≡ false). t ∙ sym u)
     (cases (same_name y x)))
     (cases (same_name x y))
-
-or_assoc : (a b c : Bool) → ((a || b) || c) ≡ (a || (b || c))
-or_assoc true b c = refl
-or_assoc false b c = refl
-
-or_false : (a : Bool) → (a || false) ≡ a
-or_false true = refl
-or_false false = refl
 
 and_false : (a : Bool) → (a && false) ≡ false
 and_false true = refl

@@ -55,13 +55,14 @@ pub fn capture(
     })
 }
 
-// The last variable of each of these names, from the top of the frame down.
+// The last variable of each of these names, from the top of the frame down. A name that was found is taken away, so
+// that the variables that it hides stay out, and so that the search ends with the last name.
 fn take_named(alloc: Global, frame: &Frame, mut names: Names) -> Result<Vec<Taken>, AllocError>
     ensures { IfOk result (λ taken. map caught_of taken.items ≡ caught frame.now names) }
 {
     let mut taken = Vec::new(alloc);
     let mut at = frame.len();
-    while at > 0 && names.len() > 0 {
+    while at > 0 && !names.is_empty() {
         at -= 1;
         let Some((name, stored)) = frame.slot(at) else {
             continue;
@@ -126,8 +127,8 @@ pub fn push_variables(
     Ok(())
 }
 
-/// Which of these variables are stored, as a mask. There is none of more than 32 variables, which is answered as want
-/// of memory; a program in scope has at most 16 in a place.
+/// Which of these variables are stored, as a mask. One of more than 32 bits is answered as want of memory; a program
+/// in scope has at most 16 variables in a place.
 pub fn mask(scoped: &Scoped, binders: &[Binder]) -> Result<u32, AllocError>
     ensures { IfOk result (λ m. m ≡ mask (context_of (program_of scoped.now.program)) (binders_of binders.now)) }
 {

@@ -1,7 +1,7 @@
 //! The names that occur free in a form.
 
-ghost use Rattle.std.specs.Prelude.{◌≡◌, ◌∷◌, [], ◌++◌, IfOk, OnOk, take, length};
-ghost use Rattle.ql_expand.specs.Core.{Name, lambda};
+ghost use Rattle.std.specs.Prelude.{◌≡◌, ◌∷◌, [], IfOk, OnOk, take, length};
+ghost use Rattle.ql_expand.specs.Core.{Name};
 ghost use Rattle.ql_expand.specs.View.{binders_of, bounds_of, core_of, cores_of, name_of, node_of};
 ghost use Rattle.ql_scope.specs.Scope.{binders_in};
 ghost use Rattle.ql_compile.specs.Compile.{free, free_in_cores, free_in_node, free_in_values, is_name_among, without_all};

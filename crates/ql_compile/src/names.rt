@@ -1,6 +1,6 @@
 //! Sets of names.
 
-ghost use Rattle.std.specs.Prelude.{◌≡◌, [], length, take, OnOk};
+ghost use Rattle.std.specs.Prelude.{◌≡◌, ◌↔◌, [], length, take, IsTrue, OnOk};
 ghost use Rattle.ql_expand.specs.Core.{Name};
 ghost use Rattle.ql_expand.specs.View.{name_of};
 ghost use Rattle.ql_compile.specs.Compile.{is_name_among, without};
@@ -51,6 +51,13 @@ impl Names {
         ensures { result ≡ length self.now }
     {
         self.keys.len()
+    }
+
+    /// Whether there are none.
+    pub fn is_empty(&self) -> bool
+        ensures { IsTrue result ↔ (length self.now ≡ 0) }
+    {
+        self.len() == 0
     }
 
     /// Whether a name is among them.

@@ -19,8 +19,7 @@ loop-at-preserved-in_default c =
     let n = c.loop-at.at - 1 in
     let at : n < length sc = omega (arith, c.loop-at.invariant.0) in
     let same : n + 1 ≡ c.loop-at.at = omega arith in
-    let none : c.slot.result ≡ None = c.in_default.is in
-    (
+    let none : c.slot.result ≡ None = c.in_default.is in (
       omega (arith, c.loop-at.invariant.0),
       ap (λ cs. map caught_of c.loop-at.taken.items ++ cs)
           (sym (passes_operand sc n at c.loop-at.names (option_map named c.slot.result) (ap (option_map named) none) c.slot.ensures) ∙ ap (λ i. caught (lowest i sc) c.loop-at.names) same)
@@ -37,8 +36,7 @@ loop-at-preserved-in-Continue-branch-2 c =
     let t : Taken = record { slot = c.in_ok-slot.slot; name = c.in-Some.name; stored = c.in-Some.stored } in
     let answers : Answers sc n (Some v) = λ above below w whole long. ap (option_map named) (sym c.in-Some.is) ∙ c.slot.ensures above below w whole long in
     let rest = caught (lowest n sc) c.remove.new.self in
-    let before = map caught_of c.loop-at.taken.items in
-    (
+    let before = map caught_of c.loop-at.taken.items in (
       omega (arith, c.loop-at.invariant.0),
       ap (λ l. map caught_of l ++ rest) c.in_ok-push.ensures.items
           ∙ (ap (λ l. l ++ rest) (map-append caught_of c.loop-at.taken.items (t ∷ []))
@@ -56,8 +54,7 @@ loop-at-preserved c =
     let at : n < length sc = omega (arith, c.loop-at.invariant.0) in
     let same : n + 1 ≡ c.loop-at.at = omega arith in
     let v : Name × Bool = (name_of c.in-Some.name, c.in-Some.stored) in
-    let answers : Answers sc n (Some v) = λ above below w whole long. ap (option_map named) (sym c.in-Some.is) ∙ c.slot.ensures above below w whole long in
-    (
+    let answers : Answers sc n (Some v) = λ above below w whole long. ap (option_map named) (sym c.in-Some.is) ∙ c.slot.ensures above below w whole long in (
       omega (arith, c.loop-at.invariant.0),
       ap (λ cs. map caught_of c.loop-at.taken.items ++ cs)
           (sym (passes_variable sc n at c.loop-at.names v c.remove.new.self answers (sym c.remove.ensures.found ∙ c.if-remove.false) c.remove.ensures.left) ∙ ap (λ i. caught (lowest i sc) c.loop-at.names) same)
@@ -69,6 +66,8 @@ returns c =
     let sc = c.args.frame.now in
     let before = map caught_of c.loop-at.taken.items in
     let over : caught (lowest c.loop-at.at sc) c.loop-at.names ≡ [] =
-    elim c.loop-at-test.branch [ goal.then-loop-at-test+else-len-gt0 w ↦ ap (caught (lowest c.loop-at.at sc)) (no_names c.loop-at.names (omega (arith, w.len.ensures))) ∙ caught_none (lowest c.loop-at.at sc)
-    | goal.else-loop-at-test w ↦ ap (λ l. caught l c.loop-at.names) (nothing_lowest sc c.loop-at.at (omega arith)) ] in
+    elim c.loop-at-test.branch [
+      | goal.then-loop-at-test+else-not-is_empty w ↦ ap (caught (lowest c.loop-at.at sc)) (no_names c.loop-at.names (w.is_empty.ensures.0 w.if-not-is_empty.false)) ∙ caught_none (lowest c.loop-at.at sc)
+      | goal.else-loop-at-test w ↦ ap (λ l. caught l c.loop-at.names) (nothing_lowest sc c.loop-at.at (omega arith))
+    ] in
     sym (append-nil before) ∙ (ap (λ cs. before ++ cs) (sym over) ∙ c.loop-at.invariant.1)

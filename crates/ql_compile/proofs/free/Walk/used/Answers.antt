@@ -2,7 +2,7 @@ use Rattle.std.proofs.Common.{◌≡◌, ◌∙◌, ap, sym, false}
 use Rattle.ql_expand.specs.View.{name_of}
 use Rattle.ql_compile.specs.Compile.{is_name_among}
 use Rattle.ql_compile.specs.Free.{Gathered, with_name}
-use Rattle.ql_compile.proofs.Capturing.{used_bound, used_free}
+use Rattle.ql_compile.proofs.Capturing.{used_free}
 use Rattle.ql_compile.proofs.free.Walk.used.Goals as goal
 
 pub returns-in_ok-insert : goal.returns-in_ok-insert

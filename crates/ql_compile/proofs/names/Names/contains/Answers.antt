@@ -1,4 +1,4 @@
-use Rattle.std.proofs.Common.{◌≡◌, ◌∙◌, ap, map}
+use Rattle.std.proofs.Common.{◌∙◌, ap, map}
 use Rattle.ql_expand.specs.View.{name_of}
 use Rattle.ql_compile.specs.Compile.{is_name_among}
 use Rattle.ql_compile.specs.Free.{named_by}

@@ -1,4 +1,4 @@
-use Rattle.std.proofs.Common.{◌≡◌, ◌∙◌, ap, map}
+use Rattle.std.proofs.Common.{◌∙◌, ap, map}
 use Rattle.ql_expand.specs.View.{name_of}
 use Rattle.ql_compile.specs.Free.{named_by, with_name}
 use Rattle.ql_compile.proofs.Capturing.{inserted, same_key}

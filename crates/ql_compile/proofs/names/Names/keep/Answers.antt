@@ -1,4 +1,4 @@
-use Rattle.std.proofs.Common.{◌≡◌, ◌∙◌, ap, map, take}
+use Rattle.std.proofs.Common.{◌∙◌, ap, map, take}
 use Rattle.ql_compile.specs.Free.{named_by}
 use Rattle.ql_compile.proofs.Capturing.{map_take}
 use Rattle.ql_compile.proofs.names.Names.keep.Goals as goal
