@@ -14,7 +14,7 @@ use Rattle.ql_expand.specs.declared.core_form.Core.{Core}
 use Rattle.ql_expand.specs.declared.core_form.Node.{fold-roll-Node}
 use Rattle.ql_expand.specs.declared.core_form.Node.TheOpen.{Node-F}
 use Rattle.ql_expand.specs.declared.core_form.Node.TheViews as view
-use Rattle.ql_scope.proofs.Cases.{or_assoc, or_false}
+use Rattle.ql_compile.proofs.Rests.{or_assoc, or_false}
 use Rattle.ql_meaning.specs.Context.{same_name, name_of}
 use Rattle.ql_compile.specs.Compile.{Scope, is_name_among, without, without_all, caught, caught_slots}
 use Rattle.ql_compile.specs.declared.captured.Taken.{Taken}

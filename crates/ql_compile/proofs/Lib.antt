@@ -23,6 +23,7 @@ mod Noted
 mod ProgramIsFine
 mod Quoting
 mod Relation
+mod Rests
 mod Right
 mod Scopes
 mod Simulation

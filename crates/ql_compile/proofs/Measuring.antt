@@ -7,11 +7,8 @@ use Rattle.std.proofs.lemmas.Bool.Decides.{nat_tests}
 use Rattle.ql_base.specs.declared.numbers.Offset.{Offset}
 use Rattle.ql_expand.specs.Core as core
 use Rattle.ql_expand.specs.Core.{Core, Node, constant, variable, setq, conditional, progn, binding, primitive, lambda, defvar, Cores, no_cores, and_core, Bounds, no_bounds, and_bound, Function, function, Program, program}
-use Rattle.ql_expand.specs.View.{core_of, cores_of, node_of, node_step, bound_step, core_step}
+use Rattle.ql_expand.specs.View.{core_of, cores_of}
 use Rattle.ql_expand.specs.declared.core_form.Core as declared
-use Rattle.ql_expand.specs.declared.core_form.Node.{fold-roll-Node}
-use Rattle.ql_expand.specs.declared.core_form.Node.TheOpen.{Node-F}
-use Rattle.ql_expand.specs.declared.core_form.Node.TheViews as view
 use Rattle.ql_scope.specs.Scope.{binders_in}
 use Rattle.ql_meaning.specs.Context.{Context, context_of, offset_of, stored_among}
 use Rattle.ql_code.specs.Code as spec
@@ -22,10 +19,6 @@ use Rattle.ql_compile.specs.Compile.{compiled, Scope, Places, size, size_of_valu
 use Rattle.ql_compile.specs.Measure.{counted, offsets_of, offsets_of_cores, offsets_of_forms, offsets_of_functions, offsets_of_joined, offsets_of_node, offsets_of_tops, offsets_of_values, with_one}
 use Rattle.ql_compile.specs.declared.measure.Meter.{Meter}
 use Rattle.ql_compile.proofs.Sizes.{long}
-
-pub prim_is : (o : ℕ) (cs : List declared.Core) → node_of (view.Prim o cs) ≡ primitive o (cores_of cs)
-unfolding Rattle.ql_expand.specs.declared.core_form.Node.TheViews.roll-Node denote.Hole.Carrier.roll
-prim_is o cs = fold-roll-Node core.Node (core.Binder × core.Core) core.Core node_step bound_step core_step (Node-F.Prim o cs)
 
 -- ---- counting
 

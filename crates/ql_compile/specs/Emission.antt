@@ -1,11 +1,9 @@
 -- How far the code of a program has come: these definitions serve proofs alone.
-use Rattle.std.specs.Prelude.{◌≡◌, ℕ, ◌+◌, List, [], ◌∷◌, ◌++◌, length, map, Option, Some, None, option_map, slice_index_or}
-use Rattle.ql_expand.specs.Core.{Binder, Core}
+use Rattle.std.specs.Prelude.{◌≡◌, ℕ, List, ◌++◌, length, Option, None, option_map, slice_index_or}
 use Rattle.ql_meaning.specs.Context.{Context, place_of, word_at}
-use Rattle.ql_code.specs.Code.{Instruction, instruction}
-use Rattle.ql_code.specs.declared.code.Op.{Op}
+use Rattle.ql_code.specs.Code.{Instruction}
 use Rattle.ql_code.specs.declared.code.FunEntry.{FunEntry}
-use Rattle.ql_compile.specs.Compile.{Scope, Places, place_called, entry_of, with_variables}
+use Rattle.ql_compile.specs.Compile.{Scope, Places, place_called, entry_of}
 use Rattle.ql_world.specs.declared.word.Word.{Word}
 
 -- the program at hand, the slots of the frame, and the instructions so far

@@ -4,6 +4,7 @@ pub mod Building
 pub mod Core
 pub mod Expands
 pub mod ExpandFault
+pub mod Opened
 pub mod Operator
 pub mod Parts
 pub mod Primitives

@@ -4,4 +4,4 @@ pub mod Cases
 pub mod Collected
 mod Compilable
 mod FaultKinds
-pub mod Opened
+pub mod Listed

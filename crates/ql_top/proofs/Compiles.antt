@@ -10,7 +10,7 @@ use Rattle.ql_expand.specs.View as view
 use Rattle.ql_expand.specs.declared.core_form.Core.{Core as Given}
 use Rattle.ql_top.specs.Runnable.{Core, constant, sum, print, with_both, core_of, and_also, cores_of, program_of}
 use Rattle.ql_top.specs.Code.{instruction, code_of, code_of_program, place_of, AddsCode, AddsForms}
-use Rattle.ql_top.proofs.Opened.{opened}
+use Rattle.ql_expand.specs.Opened.{opened}
 use Rattle.ql_top.specs.declared.code.Op.TheVariants.{Sum, Print, Drop, End}
 use Rattle.ql_top.specs.declared.code.Instruction.{Instruction}
 

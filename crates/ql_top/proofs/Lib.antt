@@ -1,6 +1,5 @@
 mod Answering
 mod Examples
-mod Opened
 mod Parts
 mod Pieces
 mod Schedules

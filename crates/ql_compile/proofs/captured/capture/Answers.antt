@@ -1,4 +1,4 @@
-use Rattle.std.proofs.Common.{◌≡◌, ◌∙◌, ap}
+use Rattle.std.proofs.Common.{◌∙◌, ap}
 use Rattle.ql_expand.specs.ProgramView.{program_of}
 use Rattle.ql_expand.specs.View.{binders_of, core_of}
 use Rattle.ql_meaning.specs.Context.{context_of, stored_among}

@@ -3,7 +3,7 @@ use Rattle.std.proofs.lemmas.List.{drop_all, get_or_default}
 use Rattle.ql_expand.specs.ProgramView.{program_of}
 use Rattle.ql_expand.specs.View.{cores_of, function_of}
 use Rattle.ql_meaning.specs.Context.{context_of}
-use Rattle.ql_scope.proofs.Added.{drop_is}
+use Rattle.ql_compile.proofs.Rests.{drop_is}
 use Rattle.ql_compile.specs.Compile.{entry_of, size_of_tops}
 use Rattle.ql_compile.specs.Named.{with_places}
 use Rattle.ql_compile.proofs.Tables.{each_has_place, entries_next, placed}

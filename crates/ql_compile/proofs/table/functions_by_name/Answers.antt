@@ -1,4 +1,4 @@
-use Rattle.std.proofs.Common.{◌≡◌, ◌∙◌, ◌≤◌, ◌⊎◌, inl, inr, ℕ, None, ap, arith, drop, get_or, length, refl, rules, sym}
+use Rattle.std.proofs.Common.{◌≡◌, ◌∙◌, ap, arith, length, refl, sym}
 use Rattle.ql_compile.specs.Named.{entry_named}
 use Rattle.ql_compile.proofs.Tables.{named_is, none_named, one_ends}
 use Rattle.ql_compile.proofs.table.functions_by_name.Goals as goal

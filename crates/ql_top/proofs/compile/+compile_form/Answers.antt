@@ -1,7 +1,7 @@
 use Rattle.ql_expand.specs.View as view
 use Rattle.ql_top.specs.Runnable.{core_of}
-use Rattle.ql_top.proofs.Opened.{opened}
-use Rattle.ql_top.proofs.Opened.{constant_is, print_is}
+use Rattle.ql_expand.specs.Opened.{opened}
+use Rattle.ql_expand.specs.Opened.{constant_is, print_is}
 use Rattle.ql_top.proofs.Compiles.{on_ok, adds_print, adds_short, adds_long}
 use Rattle.ql_top.proofs.compile.+compile_form.Goals as goal
 

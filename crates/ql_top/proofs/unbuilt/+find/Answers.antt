@@ -2,7 +2,7 @@ use Rattle.std.proofs.Common.{ap, refl, ◌++◌}
 use Rattle.ql_expand.specs.View.{core_of, cores_of, bounds_of}
 use Rattle.ql_expand.specs.declared.core_form.Core.{Core}
 use Rattle.ql_expand.specs.declared.core_form.Bound.{Bound}
-use Rattle.ql_top.proofs.Opened.{bound_opened, if_is, let_is, funcall_is, qlet_is, qlambda_is, catch_is, qcatch_is, throw_is, protect_is}
+use Rattle.ql_expand.specs.Opened.{bound_opened, if_is, let_is, funcall_is, qlet_is, qlambda_is, catch_is, qcatch_is, throw_is, protect_is}
 use Rattle.ql_top.specs.Unbuilt.{first_of, core_places, cores_places, bounds_places}
 use Rattle.ql_top.proofs.Built.{two_found, three_found, next_found}
 use Rattle.ql_top.proofs.unbuilt.+find.Goals as goal

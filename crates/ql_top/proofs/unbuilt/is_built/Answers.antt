@@ -1,7 +1,7 @@
 use Rattle.std.proofs.Common.{◌≡◌, true, false, sym, ◌∙◌}
 use Rattle.ql_expand.specs.View.{cores_of}
 use Rattle.ql_top.specs.Unbuilt.{are_two}
-use Rattle.ql_top.proofs.Opened.{constant_is, primitive_is}
+use Rattle.ql_expand.specs.Opened.{constant_is, primitive_is}
 use Rattle.ql_top.proofs.unbuilt.is_built.Goals as goal
 
 pub returns-in-Const : goal.returns-in-Const

@@ -1,4 +1,4 @@
-use Rattle.std.proofs.Common.{◌≡◌, [], ◌∷◌, ◌++◌, ◌∙◌, sym, ap, Some, None}
+use Rattle.std.proofs.Common.{[], ◌∷◌, ◌++◌, ◌∙◌, sym, ap}
 use Rattle.ql_compile.specs.Slots.{HasPlaces, stacked}
 use Rattle.ql_compile.proofs.Slotted.{below_last, is_there, popped_operand, popped_variable}
 use Rattle.ql_compile.proofs.frame.Frame.pop.Goals as goal

@@ -1,4 +1,4 @@
-use Rattle.std.proofs.Common.{[], ◌∷◌, ◌∙◌, sym, ap, refl, None}
+use Rattle.std.proofs.Common.{[], ◌∷◌, ◌∙◌, ap, refl, None}
 use Rattle.ql_compile.specs.Slots.{stacked}
 use Rattle.ql_compile.proofs.Slotted.{pushed_operand, stacked_last}
 use Rattle.ql_compile.proofs.frame.Frame.push_operand.Goals as goal

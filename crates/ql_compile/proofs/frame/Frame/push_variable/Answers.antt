@@ -1,4 +1,4 @@
-use Rattle.std.proofs.Common.{[], ◌∷◌, ◌∙◌, sym, ap, arith, Some}
+use Rattle.std.proofs.Common.{[], ◌∷◌, ◌∙◌, ap, arith, Some}
 use Rattle.ql_compile.specs.Slots.{stacked}
 use Rattle.ql_expand.specs.View.{name_of}
 use Rattle.ql_compile.proofs.Slotted.{pushed_variable, stacked_last}

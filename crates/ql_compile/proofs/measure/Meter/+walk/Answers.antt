@@ -1,10 +1,10 @@
 use Rattle.std.proofs.Common.{◌≡◌, ◌+◌, ◌<◌, ◌++◌, ◌∷◌, [], ap, arith, drop, length}
 use Rattle.ql_expand.specs.View.{bounds_of, core_of, cores_of}
 use Rattle.ql_meaning.specs.Context.{offset_of}
-use Rattle.ql_scope.proofs.Added.{drop_is}
-use Rattle.ql_scope.proofs.Opened.{opened, bound_opened, setq_is, if_is, let_is, call_is, funcall_is, qlet_is, qlambda_is, catch_is, qcatch_is, throw_is, protect_is}
+use Rattle.ql_compile.proofs.Rests.{drop_is}
+use Rattle.ql_expand.specs.Opened.{primitive_is, opened, bound_opened, setq_is, if_is, let_is, call_is, funcall_is, qlet_is, qlambda_is, catch_is, qcatch_is, throw_is, protect_is}
 use Rattle.ql_compile.specs.Measure.{offsets_of, offsets_of_cores, offsets_of_forms, offsets_of_joined, offsets_of_values}
-use Rattle.ql_compile.proofs.Measuring.{counted_append, counted_next, counted_step, forms_more, prim_is}
+use Rattle.ql_compile.proofs.Measuring.{counted_append, counted_next, counted_step, forms_more}
 use Rattle.ql_compile.proofs.measure.Meter.+walk.Goals as goal
 
 pub around-returns : goal.around-returns
@@ -56,7 +56,7 @@ pub node-returns-in-Let : goal.node-returns-in-Let
 node-returns-in-Let t c = grind (arith, counted_append, let_is)
 
 pub node-returns-in-Prim : goal.node-returns-in-Prim
-node-returns-in-Prim t c = grind (arith, counted_append, prim_is)
+node-returns-in-Prim t c = grind (arith, counted_append, primitive_is)
 
 pub node-returns-in-Call : goal.node-returns-in-Call
 node-returns-in-Call t c = grind (arith, counted_append, call_is)

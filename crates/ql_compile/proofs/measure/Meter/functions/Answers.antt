@@ -1,6 +1,6 @@
 use Rattle.std.proofs.Common.{◌+◌, ◌<◌, arith, drop, length, map}
 use Rattle.ql_expand.specs.View.{binders_of, core_of, function_of}
-use Rattle.ql_scope.proofs.Added.{drop_is}
+use Rattle.ql_compile.proofs.Rests.{drop_is}
 use Rattle.ql_compile.specs.Measure.{offsets_of, offsets_of_functions}
 use Rattle.ql_compile.proofs.Measuring.{counted_step, functions_next}
 use Rattle.ql_compile.proofs.measure.Meter.functions.Goals as goal

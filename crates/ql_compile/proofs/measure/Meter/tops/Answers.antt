@@ -1,8 +1,8 @@
 use Rattle.std.proofs.Common.{◌≡◌, ◌+◌, ◌<◌, ap, arith, drop, length}
 use Rattle.ql_expand.specs.View.{core_of, cores_of}
 use Rattle.ql_meaning.specs.Context.{offset_of}
-use Rattle.ql_scope.proofs.Added.{drop_is}
-use Rattle.ql_scope.proofs.Opened.{opened}
+use Rattle.ql_compile.proofs.Rests.{drop_is}
+use Rattle.ql_expand.specs.Opened.{opened}
 use Rattle.ql_compile.specs.Measure.{offsets_of, offsets_of_tops}
 use Rattle.ql_compile.proofs.Measuring.{counted_step}
 use Rattle.ql_compile.proofs.measure.Meter.tops.Goals as goal

@@ -3,7 +3,7 @@ use Rattle.std.proofs.lemmas.List.{drop_all}
 use Rattle.ql_expand.specs.View.{core_of, binders_of, bounds_of}
 use Rattle.ql_scope.specs.Scope.{binders_in, core_at}
 use Rattle.ql_scope.proofs.Added.{adds_nothing, adds_then, then_more, under_binders, drop_is}
-use Rattle.ql_scope.proofs.Opened.{opened, bound_opened, setq_is, if_is, let_is, call_is, funcall_is, qlet_is, qlambda_is, catch_is, qcatch_is, throw_is, protect_is}
+use Rattle.ql_expand.specs.Opened.{opened, bound_opened, setq_is, if_is, let_is, call_is, funcall_is, qlet_is, qlambda_is, catch_is, qcatch_is, throw_is, protect_is}
 use Rattle.ql_scope.proofs.walk.Walk.+walk.Goals as goal
 
 pub core-returns : goal.core-returns

@@ -3,7 +3,7 @@ use Rattle.ql_expand.specs.View.{binder_of, bounds_of}
 use Rattle.ql_expand.specs.declared.core_form.Bound.{Bound}
 use Rattle.ql_scope.specs.Scope.{binders_in}
 use Rattle.ql_scope.proofs.Added.{bound_one, drop_is, map_more}
-use Rattle.ql_scope.proofs.Opened.{variables_are}
+use Rattle.ql_scope.proofs.Listed.{variables_are}
 use Rattle.ql_scope.proofs.walk.Walk.bind_variables.Goals as goal
 
 pub loop-bound-preserved : goal.loop-bound-preserved

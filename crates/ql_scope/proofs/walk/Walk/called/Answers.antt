@@ -3,7 +3,7 @@ use Rattle.ql_base.specs.Refusal.{fault, first_of}
 use Rattle.ql_base.specs.declared.refusal.FaultKind.TheVariants.{WrongCount}
 use Rattle.ql_scope.proofs.Cases.{where_not}
 use Rattle.ql_scope.specs.Scope.{parameter_count}
-use Rattle.ql_scope.proofs.Opened.{count_all}
+use Rattle.ql_scope.proofs.Listed.{count_all}
 use Rattle.ql_scope.proofs.walk.Walk.called.Goals as goal
 
 pub returns-in-Some : goal.returns-in-Some

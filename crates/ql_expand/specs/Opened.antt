@@ -1,12 +1,11 @@
--- What a core form of several parts is made of.
-use Rattle.std.proofs.Common.{◌≡◌, ℕ, Bool, List, length, map, refl, ap, arith, [], ◌∷◌}
+-- What a value's core is made of, a line for each kind: these lemmas serve proofs alone.
+use Rattle.std.specs.Prelude.{◌≡◌, ℕ, Bool, List}
 use Rattle.ql_base.specs.declared.numbers.Offset.{Offset}
-use Rattle.ql_expand.specs.View.{core_of, node_of, cores_of, bounds_of, bound_of, binder_of, binders_of, name_of, node_step, bound_step, core_step}
-use Rattle.ql_expand.specs.Primitives.{count_of}
+use Rattle.ql_expand.specs.View.{core_of, node_of, cores_of, bounds_of, bound_of, binder_of, binders_of, constant_of, name_of, node_step, bound_step, core_step}
 use Rattle.ql_expand.specs.Core as spec
-use Rattle.ql_expand.specs.Core.{core, setq, conditional, binding, call, funcall, qlet, qlambda, catch, qcatch, throw, protect}
-use Rattle.ql_scope.specs.Scope.{binders_in}
+use Rattle.ql_expand.specs.Core.{core, constant, setq, conditional, binding, primitive, print, call, funcall, qlet, qlambda, catch, qcatch, throw, protect}
 use Rattle.ql_expand.specs.declared.core_form.VarName.{VarName}
+use Rattle.ql_expand.specs.declared.core_form.Constant.{Constant}
 use Rattle.ql_expand.specs.declared.core_form.Binder.{Binder}
 use Rattle.ql_expand.specs.declared.core_form.Core.{Core}
 use Rattle.ql_expand.specs.declared.core_form.Bound.{Bound}
@@ -14,16 +13,17 @@ use Rattle.ql_expand.specs.declared.core_form.Node.{fold-roll-Node}
 use Rattle.ql_expand.specs.declared.core_form.Node.TheFolds.{fold-roll-Core, fold-roll-Bound}
 use Rattle.ql_expand.specs.declared.core_form.Node.TheOpen.{Node-F}
 use Rattle.ql_expand.specs.declared.core_form.Node.TheViews as view
-
-pub count_all : (cs : List Core) → count_of (cores_of cs) ≡ length cs
-count_all [] = refl
-count_all (c ∷ cs) = omega (arith, count_all cs)
+use Rattle.ql_expand.specs.declared.core_form.Node.TheVariants as variants
 
 pub opened : (c : Core) → core_of c ≡ core c.at.0 (node_of c.node)
 opened c = fold-roll-Core spec.Node (spec.Binder × spec.Core) spec.Core node_step bound_step core_step (record { at = c.at; node = c.node })
 
 pub bound_opened : (b : Bound) → bound_of b ≡ (binder_of b.binder, core_of b.value)
 bound_opened b = fold-roll-Bound spec.Node (spec.Binder × spec.Core) spec.Core node_step bound_step core_step (record { binder = b.binder; value = b.value })
+
+pub constant_is : (f : Constant) → node_of (variants.Const f) ≡ constant (constant_of f)
+unfolding Rattle.ql_expand.specs.declared.core_form.Node.TheViews.roll-Node denote.Hole.Carrier.roll
+constant_is f = fold-roll-Node spec.Node (spec.Binder × spec.Core) spec.Core node_step bound_step core_step (Node-F.Const f)
 
 pub setq_is : (v : VarName) (at : Offset) (c : Core) → node_of (view.Setq v at c) ≡ setq (name_of v) at.0 (core_of c)
 unfolding Rattle.ql_expand.specs.declared.core_form.Node.TheViews.roll-Node denote.Hole.Carrier.roll
@@ -32,6 +32,18 @@ setq_is v at c = fold-roll-Node spec.Node (spec.Binder × spec.Core) spec.Core n
 pub if_is : (a b c : Core) → node_of (view.If a b c) ≡ conditional (core_of a) (core_of b) (core_of c)
 unfolding Rattle.ql_expand.specs.declared.core_form.Node.TheViews.roll-Node denote.Hole.Carrier.roll
 if_is a b c = fold-roll-Node spec.Node (spec.Binder × spec.Core) spec.Core node_step bound_step core_step (Node-F.If a b c)
+
+pub let_is : (bs : List Bound) (c : Core) → node_of (view.Let bs c) ≡ binding (bounds_of bs) (core_of c)
+unfolding Rattle.ql_expand.specs.declared.core_form.Node.TheViews.roll-Node denote.Hole.Carrier.roll
+let_is bs c = fold-roll-Node spec.Node (spec.Binder × spec.Core) spec.Core node_step bound_step core_step (Node-F.Let bs c)
+
+pub primitive_is : (n : ℕ) (cs : List Core) → node_of (view.Prim n cs) ≡ primitive n (cores_of cs)
+unfolding Rattle.ql_expand.specs.declared.core_form.Node.TheViews.roll-Node denote.Hole.Carrier.roll
+primitive_is n cs = fold-roll-Node spec.Node (spec.Binder × spec.Core) spec.Core node_step bound_step core_step (Node-F.Prim n cs)
+
+pub print_is : (c : Core) → node_of (view.Print c) ≡ print (core_of c)
+unfolding Rattle.ql_expand.specs.declared.core_form.Node.TheViews.roll-Node denote.Hole.Carrier.roll
+print_is c = fold-roll-Node spec.Node (spec.Binder × spec.Core) spec.Core node_step bound_step core_step (Node-F.Print c)
 
 pub call_is : (n : ℕ) (at : Offset) (cs : List Core) → node_of (view.Call n at cs) ≡ call n at.0 (cores_of cs)
 unfolding Rattle.ql_expand.specs.declared.core_form.Node.TheViews.roll-Node denote.Hole.Carrier.roll
@@ -49,14 +61,6 @@ pub qlambda_is : (p : Core) (ps : List Binder) (c : Core) → node_of (view.Qlam
 unfolding Rattle.ql_expand.specs.declared.core_form.Node.TheViews.roll-Node denote.Hole.Carrier.roll
 qlambda_is p ps c = fold-roll-Node spec.Node (spec.Binder × spec.Core) spec.Core node_step bound_step core_step (Node-F.Qlambda p ps c)
 
-pub protect_is : (a b : Core) → node_of (view.Protect a b) ≡ protect (core_of a) (core_of b)
-unfolding Rattle.ql_expand.specs.declared.core_form.Node.TheViews.roll-Node denote.Hole.Carrier.roll
-protect_is a b = fold-roll-Node spec.Node (spec.Binder × spec.Core) spec.Core node_step bound_step core_step (Node-F.Protect a b)
-
-pub let_is : (bs : List Bound) (c : Core) → node_of (view.Let bs c) ≡ binding (bounds_of bs) (core_of c)
-unfolding Rattle.ql_expand.specs.declared.core_form.Node.TheViews.roll-Node denote.Hole.Carrier.roll
-let_is bs c = fold-roll-Node spec.Node (spec.Binder × spec.Core) spec.Core node_step bound_step core_step (Node-F.Let bs c)
-
 pub catch_is : (a b : Core) → node_of (view.Catch a b) ≡ catch (core_of a) (core_of b)
 unfolding Rattle.ql_expand.specs.declared.core_form.Node.TheViews.roll-Node denote.Hole.Carrier.roll
 catch_is a b = fold-roll-Node spec.Node (spec.Binder × spec.Core) spec.Core node_step bound_step core_step (Node-F.Catch a b)
@@ -69,7 +73,6 @@ pub throw_is : (a b : Core) → node_of (view.Throw a b) ≡ throw (core_of a) (
 unfolding Rattle.ql_expand.specs.declared.core_form.Node.TheViews.roll-Node denote.Hole.Carrier.roll
 throw_is a b = fold-roll-Node spec.Node (spec.Binder × spec.Core) spec.Core node_step bound_step core_step (Node-F.Throw a b)
 
--- The variables of bindings are the binders of these.
-pub variables_are : (bs : List Bound) → binders_in (bounds_of bs) ≡ map (λ b. binder_of b.binder) bs
-variables_are [] = refl
-variables_are (b ∷ bs) = rw (bound_opened b) (ap (λ xs. binder_of b.binder ∷ xs) (variables_are bs))
+pub protect_is : (a b : Core) → node_of (view.Protect a b) ≡ protect (core_of a) (core_of b)
+unfolding Rattle.ql_expand.specs.declared.core_form.Node.TheViews.roll-Node denote.Hole.Carrier.roll
+protect_is a b = fold-roll-Node spec.Node (spec.Binder × spec.Core) spec.Core node_step bound_step core_step (Node-F.Protect a b)
