@@ -5,7 +5,7 @@ use Rattle.std.proofs.lemmas.Bool.Decides.{nat_tests}
 use Rattle.ql_base.specs.Reserved.{number}
 use Rattle.ql_base.specs.declared.reserved.Reserved.TheVariants.{Cond as CondWord}
 use Rattle.ql_expand.specs.declared.assemble.Way.TheVariants as ways
-use Rattle.ql_expand.proofs.Making.{cond_is, no_clause_made, clause_alone_made, clause_made, linked_made, alone_made, each_used}
+use Rattle.ql_expand.proofs.Making.{word_is, no_clause_made, clause_alone_made, clause_made, linked_made, alone_made, each_used}
 use Rattle.std.specs.declared.alloc.AllocError.{AllocError}
 use Rattle.ql_forms.specs.Form.{Form, Forms, none, more, atom, list, Tail, proper, dotted, symbol, integer, operation_in, place_of, count}
 use Rattle.ql_expand.specs.Assembly.{nil_core, either, of_each, way_of}
@@ -36,19 +36,19 @@ pub clauses_become : {r : Operator} {at o w : ℕ} {d : Bool} {fs cs : Forms} {k
     → Expands d (applied at o w fs) k
 clauses_become {o = o} {w = w} {d = d} fits_clauses e x = x d o w (sym e)
 
-pub operation_shape : (f : Form) (o w : ℕ) (fs : Forms) → IsList f → operation_in f ≡ Some ((o, w), fs) → f ≡ applied (place_of f) o w fs
-operation_shape (list at (more (atom p (symbol v)) gs) proper) o w fs l k =
+pub operation_shape : (f : Form) (o w : ℕ) (fs : Forms) → operation_in f ≡ Some ((o, w), fs) → f ≡ applied (place_of f) o w fs
+operation_shape (list at (more (atom p (symbol v)) gs) proper) o w fs k =
     let pair : ((p, v), gs) ≡ ((o, w), fs) = cc in
     let head : (p, v) ≡ (o, w) = ap (λ (q : (ℕ × ℕ) × Forms). q.0) pair in
     let rest : gs ≡ fs = ap (λ (q : (ℕ × ℕ) × Forms). q.1) pair in
     let place : p ≡ o = ap (λ (q : ℕ × ℕ). q.0) head in
     let word : v ≡ w = ap (λ (q : ℕ × ℕ). q.1) head in
     rw (place, word, rest) refl
-operation_shape (list at (more (atom p (symbol v)) gs) (dotted a)) o w fs l k = cc
-operation_shape (list at (more (atom p (integer z)) gs) t) o w fs l k = cc
-operation_shape (list at (more (list p hs u) gs) t) o w fs l k = cc
-operation_shape (list at none t) o w fs l k = cc
-operation_shape (atom at a) o w fs l k = absurd l
+operation_shape (list at (more (atom p (symbol v)) gs) (dotted a)) o w fs k = cc
+operation_shape (list at (more (atom p (integer z)) gs) t) o w fs k = cc
+operation_shape (list at (more (list p hs u) gs) t) o w fs k = cc
+operation_shape (list at none t) o w fs k = cc
+operation_shape (atom at a) o w fs k = cc
 
 pub on_form : (r : Result Core AllocError) (d : Bool) (f g : Form) → f ≡ g → IfOk r (λ k. Expands d g (core_of k)) → IfOk r (λ k. Expands d f (core_of k))
 on_form r d f g e h = subst (λ (x : Form). IfOk r (λ k. Expands d x (core_of k))) (sym e) h
@@ -99,12 +99,12 @@ cond_none {at = at} p q d o w h = rw (p, q) (no_clause_made d at o w h)
 pub clause_alone : (at : ℕ) (f c : Form) (es rs : Forms) (a rest k : spec.Core) → clause_in f ≡ Some (c, es) → es ≡ none → Expands false c a → ExpandsAs at Cond rs rest
     → k ≡ either at a rest → ExpandsAs at Cond (more f rs) k
 clause_alone at f c es rs a rest k e p x y q d o w h =
-    rw q (clause_alone_made d at o w h f c rs a rest (e ∙ ap (λ (gs : Forms). Some (c, gs)) p) x (y false at (number CondWord) cond_is))
+    rw q (clause_alone_made d at o w h f c rs a rest (e ∙ ap (λ (gs : Forms). Some (c, gs)) p) x (y false at (number CondWord) (word_is CondWord)))
 
 pub clause_body : (at : ℕ) (f c g : Form) (es gs rs : Forms) (a b rest k : spec.Core) → clause_in f ≡ Some (c, es) → es ≡ more g gs → Expands false c a → Body at es b
     → ExpandsAs at Cond rs rest → k ≡ spec.core at (spec.conditional a b rest) → ExpandsAs at Cond (more f rs) k
 clause_body at f c g es gs rs a b rest k e p x y z q d o w h =
-    rw q (clause_made d at o w h f c g gs rs a b rest (e ∙ ap (λ (is : Forms). Some (c, is)) p) x (subst (λ is. Body at is b) p y) (z false at (number CondWord) cond_is))
+    rw q (clause_made d at o w h f c g gs rs a b rest (e ∙ ap (λ (is : Forms). Some (c, is)) p) x (subst (λ is. Body at is b) p y) (z false at (number CondWord) (word_is CondWord)))
 
 -- ---- forms of `and` and `or`
 

@@ -115,28 +115,7 @@ split_fits at Let fs e h = let_fits Let (λ b bs es. fits_let) fs h
 split_fits at LetStar fs e h = let_fits LetStar (λ b bs es. fits_let_star) fs h
 split_fits at Qlet fs e h = qlet_fits fs h
 split_fits at Cond fs e h = fits_clauses
-split_fits at If fs e h = forms_fit If fs (fits 2 (Some 3) (count fs)) refl h
-split_fits at Progn fs e h = forms_fit Progn fs (fits 0 None (count fs)) refl h
-split_fits at Call fs e h = forms_fit Call fs (fits 0 None (count fs)) refl h
-split_fits at Catch fs e h = forms_fit Catch fs (fits 1 None (count fs)) refl h
-split_fits at Qcatch fs e h = forms_fit Qcatch fs (fits 1 None (count fs)) refl h
-split_fits at Funcall fs e h = forms_fit Funcall fs (fits 1 None (count fs)) refl h
-split_fits at Throw fs e h = forms_fit Throw fs (fits 2 (Some 2) (count fs)) refl h
-split_fits at Binary fs e h = forms_fit Binary fs (fits 2 (Some 2) (count fs)) refl h
-split_fits at Protect fs e h = forms_fit Protect fs (fits 2 None (count fs)) refl h
-split_fits at Print fs e h = forms_fit Print fs (fits 1 (Some 1) (count fs)) refl h
-split_fits at Unary fs e h = forms_fit Unary fs (fits 1 (Some 1) (count fs)) refl h
-split_fits at Sum fs e h = forms_fit Sum fs (fits 0 None (count fs)) refl h
-split_fits at Product fs e h = forms_fit Product fs (fits 0 None (count fs)) refl h
-split_fits at Difference fs e h = forms_fit Difference fs (fits 1 None (count fs)) refl h
-split_fits at Not fs e h = forms_fit Not fs (fits 1 (Some 1) (count fs)) refl h
-split_fits at AtMost fs e h = forms_fit AtMost fs (fits 2 (Some 2) (count fs)) refl h
-split_fits at AtLeast fs e h = forms_fit AtLeast fs (fits 2 (Some 2) (count fs)) refl h
-split_fits at And fs e h = forms_fit And fs (fits 0 None (count fs)) refl h
-split_fits at Or fs e h = forms_fit Or fs (fits 0 None (count fs)) refl h
-split_fits at ListOf fs e h = forms_fit ListOf fs (fits 0 None (count fs)) refl h
-split_fits at When fs e h = forms_fit When fs (fits 1 None (count fs)) refl h
-split_fits at Unless fs e h = forms_fit Unless fs (fits 1 None (count fs)) refl h
+split_fits at r fs e h = forms_fit r fs (allows (reading_of r) (count fs)) refl h
 
 -- What the parts of a form are that has no fault, split as its operator reads them.
 pub parts_fit : (at o w : ℕ) (fs : Forms) (r : Operator) (s : Split) → IsFine (applied at o w fs) → r ≡ operator_of w → s ≡ parts_by (reading_of r) fs
@@ -148,13 +127,6 @@ parts_fit at o w fs r s (names, n, h) e k =
     let fine : IsFineSplit (parts_by q fs) = fine_split names (level_below q n fs) at (parts_by q fs) both.1 in
     rw (k, e) (fine, split_fits at (operator_of w) fs both.0 fine)
 
-pub has_operation : (f : Datum) → IsList f → IsFine f → operation_in f ≡ None → ⊥
-has_operation (atom at a) l h k = absurd l
-has_operation (list at fs t) l (names, n, h) k =
-    let f = list at fs t in
-    let bad : operation_faults names false n at None ≡ [] =
-    ap (operation_faults names false n at) (sym k) ∙ undeep n at (operation_faults names false n at (operation_in f)) (sym (form_is names false n f) ∙ h) in cc
-
 -- ---- bindings and clauses
 
 pub fine_value : (f : Datum) (v : ℕ × ℕ) (e : Datum) → IsFineBind f → bind_in f ≡ Some (v, Some e) → IsFine e
@@ -163,21 +135,11 @@ fine_value f v e (names, n, h) k =
     ap (bound_faults names n (place_of f)) (sym k) ∙ undeep n (place_of f) (bound_faults names n (place_of f) (bind_in f)) (sym (bind_is names n f) ∙ h) in
     (names, n + 1, (neither (variable_faults v.0 v.1) (form_faults names false (n + 1) e) b).1)
 
-pub binds_something : (f : Datum) → IsFineBind f → bind_in f ≡ None → ⊥
-binds_something f (names, n, h) k =
-    let b : bound_faults names n (place_of f) None ≡ [] =
-    ap (bound_faults names n (place_of f)) (sym k) ∙ undeep n (place_of f) (bound_faults names n (place_of f) (bind_in f)) (sym (bind_is names n f) ∙ h) in cc
-
 pub fine_clause : (f c : Datum) (es : Forms) → IsFineClause f → clause_in f ≡ Some (c, es) → IsFine c × AreFine es
 fine_clause f c es (names, n, h) k =
     let b : tested_faults names n (place_of f) (Some (c, es)) ≡ [] =
     ap (tested_faults names n (place_of f)) (sym k) ∙ undeep n (place_of f) (tested_faults names n (place_of f) (clause_in f)) (sym (clause_is names n f) ∙ h) in
     let both = neither (form_faults names false (n + 1) c) (forms_faults names (n + 1) es) b in ((names, n + 1, both.0), (names, n + 1, both.1))
-
-pub has_test : (f : Datum) → IsFineClause f → clause_in f ≡ None → ⊥
-has_test f (names, n, h) k =
-    let b : tested_faults names n (place_of f) None ≡ [] =
-    ap (tested_faults names n (place_of f)) (sym k) ∙ undeep n (place_of f) (tested_faults names n (place_of f) (clause_in f)) (sym (clause_is names n f) ∙ h) in cc
 
 -- ---- one of some forms
 
@@ -187,17 +149,15 @@ fine_first f fs (names, n, h) = let both = neither (form_faults names false n f)
 pub fine_first_clause : (f : Datum) (fs : Forms) → AreFineClauses (more f fs) → IsFineClause f × AreFineClauses fs
 fine_first_clause f fs (names, n, h) = let both = neither (clause_faults names n f) (clauses_faults names n fs) h in ((names, n, both.0), (names, n, both.1))
 
-pub fine_at : (xs : List Form) (i : ℕ) (x : Form) → AreFine (forms_of xs) → i < length xs → x ≡ get_or xs i x → IsFine (form_of x)
-fine_at [] i x h k e = absurd (omega arith)
-fine_at (y ∷ xs) zero x h k e = rw e (fine_first (form_of y) (forms_of xs) h).0
-fine_at (y ∷ xs) (suc i) x h k e = let within : i < length xs = omega arith in fine_at xs i x (fine_first (form_of y) (forms_of xs) h).1 within e
+-- Where a fact of some forms is one of the first and one of the others, it is one of each.
+pub at_place : (P : Forms → Type 0) (Q : Datum → Type 0) → ((f : Datum) (fs : Forms) → P (more f fs) → Q f × P fs)
+    → (xs : List Form) (i : ℕ) (x : Form) → P (forms_of xs) → i < length xs → x ≡ get_or xs i x → Q (form_of x)
+at_place P Q step [] i x h k e = absurd (omega arith)
+at_place P Q step (y ∷ xs) zero x h k e = rw e (step (form_of y) (forms_of xs) h).0
+at_place P Q step (y ∷ xs) (suc i) x h k e = let within : i < length xs = omega arith in at_place P Q step xs i x (step (form_of y) (forms_of xs) h).1 within e
 
-pub fine_bind_at : (xs : List Form) (i : ℕ) (x : Form) → AreFineBinds (forms_of xs) → i < length xs → x ≡ get_or xs i x → IsFineBind (form_of x)
-fine_bind_at [] i x h k e = absurd (omega arith)
-fine_bind_at (y ∷ xs) zero x (names, n, h) k e = rw e (names, n, (neither (bind_faults names n (form_of y)) (binds_faults names n (forms_of xs)) h).0)
-fine_bind_at (y ∷ xs) (suc i) x (names, n, h) k e =
-    let within : i < length xs = omega arith in
-    fine_bind_at xs i x (names, n, (neither (bind_faults names n (form_of y)) (binds_faults names n (forms_of xs)) h).1) within e
+pub fine_first_bind : (f : Datum) (fs : Forms) → AreFineBinds (more f fs) → IsFineBind f × AreFineBinds fs
+fine_first_bind f fs (names, n, h) = let both = neither (bind_faults names n f) (binds_faults names n fs) h in ((names, n, both.0), (names, n, both.1))
 
 before_last : (names : List (List ℕ)) (n : ℕ) (xs : List Form) (x : Form) → forms_faults names n (forms_of (xs ++ x ∷ [])) ≡ []
     → (forms_faults names n (forms_of xs) ≡ []) × (form_faults names false n (form_of x) ≡ [])

@@ -3,6 +3,7 @@ use Rattle.std.proofs.Common.{◌≡◌, ℕ, ◌+◌, ◌≤◌, Option, Some, 
 use Rattle.std.specs.Prelude.{Bool, true, false, nat_le, if◌then◌else◌, ◌⊎◌}
 use Rattle.std.proofs.lemmas.Bool.{leb-true, and_parts}
 use Rattle.ql_base.specs.Reserved.{number}
+use Rattle.ql_base.specs.declared.reserved.Reserved.{Reserved}
 use Rattle.ql_base.specs.declared.reserved.Reserved.TheVariants.{Null, Greater, Less, Cons, Nil, True, If as IfWord, And as AndWord, Or as OrWord, Progn as PrognWord, Cond as CondWord, Let as LetWord, LetStar as LetStarWord, List as ListWord}
 use Rattle.ql_forms.specs.Form.{Form, Forms, none, more, atom, list, proper, dotted, symbol, integer, Atom, items_of, count, is_nil}
 use Rattle.ql_expand.specs.Assembly.{atom_core, nil_core, number_core, with_two, either, linked, chain, all_linked, folded, operands, nested, before_body, of_each, way_of}
@@ -10,7 +11,7 @@ use Rattle.ql_expand.specs.Building.{Fits, fits_datum, fits_forms, fits_assignme
 use Rattle.ql_expand.specs.Core.{named, Binder, Core, core, Cores, no_cores, and_core, Bounds, no_bounds, and_bound, constant, setq, conditional, progn, binding, variable, print, funcall, lambda, qlet, qlambda}
 use Rattle.ql_expand.specs.ExpandFault.{fits}
 use Rattle.ql_expand.specs.Expands.{applied, added, nil_at, one, two, parameters_in, no_terms, no_factors, one_term, one_factor, negative, more_operands, not_null, at_most, at_least, list_none, list_more, and_none, and_one, and_more, or_none, or_one, when, unless, cond_none, cond_test, cond_forms, let_star_none, let_star_one, let_star_more, Expands, sugar, or_more, integer_alone, constant_word, quoted, variable_word, assigned, if_then, if_else, sequence, bound, one_operand, two_operands, printed, called, value_called, closed, bound_apart, closed_apart, caught, caught_all, thrown, protected, Body, no_forms, one_form, forms, InTurn, Each, none_left, one_more, Bind, Binds, none_bound, one_bound}
-use Rattle.ql_expand.specs.Operator.{operator_of, reading_of, takes_two, is_arithmetic, is_constant}
+use Rattle.ql_expand.specs.Operator.{operator_of, reserved_operator, reading_of, takes_two, is_arithmetic, is_constant}
 use Rattle.ql_expand.specs.Parts as parts
 use Rattle.ql_expand.specs.Parts.{clause_in}
 use Rattle.ql_expand.specs.declared.assemble.Way.TheVariants as ways
@@ -19,66 +20,15 @@ use Rattle.ql_expand.specs.declared.operator.Operator.TheVariants.{Constant, Quo
 
 -- ---- the words that sugar adds
 
-nil_is : operator_of (number Nil) ≡ Constant
+pub word_is : (r : Reserved) → operator_of (number r) ≡ reserved_operator r
 unfolding operator_of
-nil_is = refl
-
-true_is : operator_of (number True) ≡ Constant
-unfolding operator_of
-true_is = refl
-
-null_is : operator_of (number Null) ≡ Unary
-unfolding operator_of
-null_is = refl
-
-greater_is : operator_of (number Greater) ≡ Binary
-unfolding operator_of
-greater_is = refl
-
-less_is : operator_of (number Less) ≡ Binary
-unfolding operator_of
-less_is = refl
-
-cons_is : operator_of (number Cons) ≡ Binary
-unfolding operator_of
-cons_is = refl
-
-list_is : operator_of (number ListWord) ≡ ListOf
-unfolding operator_of
-list_is = refl
-
-if_is : operator_of (number IfWord) ≡ If
-unfolding operator_of
-if_is = refl
-
-and_is : operator_of (number AndWord) ≡ And
-unfolding operator_of
-and_is = refl
-
-or_is : operator_of (number OrWord) ≡ Or
-unfolding operator_of
-or_is = refl
-
-progn_is : operator_of (number PrognWord) ≡ Progn
-unfolding operator_of
-progn_is = refl
-
-pub cond_is : operator_of (number CondWord) ≡ Cond
-unfolding operator_of
-cond_is = refl
-
-let_is : operator_of (number LetWord) ≡ Let
-unfolding operator_of
-let_is = refl
-
-let_star_is : operator_of (number LetStarWord) ≡ LetStar
-unfolding operator_of
-let_star_is = refl
+word_is Nil = refl
+word_is _ = refl
 
 -- ---- atoms
 
 nil_made : {d : Bool} (at : ℕ) → Expands d (nil_at at) (nil_core at)
-nil_made at = constant_word (ap is_constant nil_is)
+nil_made at = constant_word (ap is_constant (word_is Nil))
 
 pub atom_made : (d : Bool) (at : ℕ) (a : Atom) → Expands d (atom at a) (atom_core at a)
 atom_made d at (integer z) = integer_alone
@@ -141,18 +91,18 @@ operands_made n h zero single (one_more x (one_more y ys)) = folded_made h x y y
 
 list_made : {d : Bool} {at o w : ℕ} {fs : Forms} {cs : Cores} → operator_of w ≡ ListOf → Each fs cs → Expands d (applied at o w fs) (chain ListOf at cs (nil_core at))
 list_made {at = at} e none_left = sugar (list_none e) (nil_made at)
-list_made e (one_more x xs) = sugar (list_more e) (two_operands (ap takes_two cons_is) x (list_made list_is xs))
+list_made e (one_more x xs) = sugar (list_more e) (two_operands (ap takes_two (word_is Cons)) x (list_made (word_is ListWord) xs))
 
 -- Of a single form the value is dropped where the whole one's is.
 and_made : {d : Bool} {at o w : ℕ} {fs : Forms} {cs : Cores} → operator_of w ≡ And → (count fs ≡ 1 → d ≡ false) → Each fs cs → Expands d (applied at o w fs) (all_linked And at cs)
-and_made e k none_left = sugar (and_none e) (constant_word (ap is_constant true_is))
+and_made e k none_left = sugar (and_none e) (constant_word (ap is_constant (word_is True)))
 and_made e k (one_more x none_left) = rw (k refl) (sugar (and_one e) x)
-and_made {at = at} e k (one_more x (one_more y ys)) = sugar (and_more e) (if_else if_is x (and_made and_is (λ _. refl) (one_more y ys)) (nil_made at))
+and_made {at = at} e k (one_more x (one_more y ys)) = sugar (and_more e) (if_else (word_is IfWord) x (and_made (word_is AndWord) (λ _. refl) (one_more y ys)) (nil_made at))
 
 or_made : {d : Bool} {at o w : ℕ} {fs : Forms} {cs : Cores} → operator_of w ≡ Or → (count fs ≡ 1 → d ≡ false) → Each fs cs → Expands d (applied at o w fs) (all_linked Or at cs)
 or_made {at = at} e k none_left = sugar (or_none e) (nil_made at)
 or_made e k (one_more x none_left) = rw (k refl) (sugar (or_one e) x)
-or_made e k (one_more x (one_more y ys)) = or_more e x (or_made or_is (λ _. refl) (one_more y ys))
+or_made e k (one_more x (one_more y ys)) = or_more e x (or_made (word_is OrWord) (λ _. refl) (one_more y ys))
 
 pub linked_made : (d : Bool) (at o w : ℕ) (r : Operator) → operator_of w ≡ r → way_of r ≡ ways.Linked → (fs : Forms) (cs : Cores) → (count fs ≡ 1 → d ≡ false) → Each fs cs
     → Expands d (applied at o w fs) (of_each r at o w cs)
@@ -168,12 +118,12 @@ alone_made d at o w _ e h f c x = cc
 pub each_made : (d : Bool) (at o w : ℕ) (r : Operator) → operator_of w ≡ r → way_of r ≡ ways.Each → (fs : Forms) (cs : Cores) → allows (reading_of r) (count fs) ≡ true → Each fs cs
     → Expands d (applied at o w fs) (of_each r at o w cs)
 each_made d at o w Unary e h fs cs k x = by_one d at o w (of_each Unary at o w) (λ f c. one_operand e) k x
-each_made d at o w Not e h fs cs k x = by_one d at o w (of_each Not at o w) (λ f c x. sugar (not_null e) (one_operand null_is x)) k x
+each_made d at o w Not e h fs cs k x = by_one d at o w (of_each Not at o w) (λ f c x. sugar (not_null e) (one_operand (word_is Null) x)) k x
 each_made d at o w Binary e h fs cs k x = by_two d at o w (of_each Binary at o w) (λ f g c i. two_operands (ap takes_two e)) k x
 each_made d at o w AtMost e h fs cs k x =
-    by_two d at o w (of_each AtMost at o w) (λ f g c i x y. sugar (at_most e) (one_operand null_is (two_operands (ap takes_two greater_is) x y))) k x
+    by_two d at o w (of_each AtMost at o w) (λ f g c i x y. sugar (at_most e) (one_operand (word_is Null) (two_operands (ap takes_two (word_is Greater)) x y))) k x
 each_made d at o w AtLeast e h fs cs k x =
-    by_two d at o w (of_each AtLeast at o w) (λ f g c i x y. sugar (at_least e) (one_operand null_is (two_operands (ap takes_two less_is) x y))) k x
+    by_two d at o w (of_each AtLeast at o w) (λ f g c i x y. sugar (at_least e) (one_operand (word_is Null) (two_operands (ap takes_two (word_is Less)) x y))) k x
 each_made d at o w Sum e h fs cs k x =
     operands_made 0 (ap is_arithmetic e) (λ _. sugar (no_terms e) integer_alone) (λ a c y. sugar (one_term e) (two_operands (ap takes_two e) integer_alone y)) x
 each_made d at o w Product e h fs cs k x =
@@ -211,8 +161,8 @@ before_made d at o w Catch e h f es a b k x y = caught e x y
 before_made d at o w Qcatch e h f es a b k x y = caught_all e x y
 before_made d at o w Throw e h f es a b k x y = thrown_made d at o w e f es a b k x y
 before_made d at o w Protect e h f es a b k x y = protected_made d at o w e f es a b k x y
-before_made d at o w When e h f es a b k x y = sugar (when e) (if_else if_is x (sequence progn_is y) (nil_made at))
-before_made d at o w Unless e h f es a b k x y = sugar (unless e) (if_else if_is x (nil_made at) (sequence progn_is y))
+before_made d at o w When e h f es a b k x y = sugar (when e) (if_else (word_is IfWord) x (sequence (word_is PrognWord) y) (nil_made at))
+before_made d at o w Unless e h f es a b k x y = sugar (unless e) (if_else (word_is IfWord) x (nil_made at) (sequence (word_is PrognWord) y))
 before_made d at o w _ e h f es a b k x y = cc
 
 pub sequence_made : (d : Bool) (at o w : ℕ) (r : Operator) → operator_of w ≡ r → way_of r ≡ ways.InTurn → (fs : Forms) (c : Core) → Body at fs c → Expands d (applied at o w fs) c
@@ -247,26 +197,6 @@ pub applied_made : (d : Bool) (at o w : ℕ) (r : Operator) → operator_of w �
 applied_made d at o w Funcall e h f fs c cs x y = value_called e x y
 applied_made d at o w _ e h f fs c cs x y = cc
 
--- ---- forms that there are
-
-pub some_before : (r : Operator) → way_of r ≡ ways.BeforeBody → allows (reading_of r) 0 ≡ true → ⊥
-some_before Catch h k = cc
-some_before Qcatch h k = cc
-some_before Throw h k = cc
-some_before Protect h k = cc
-some_before When h k = cc
-some_before Unless h k = cc
-some_before _ h k = cc
-
-pub some_applied : (r : Operator) → way_of r ≡ ways.Applied → allows (reading_of r) 0 ≡ true → ⊥
-some_applied Funcall h k = cc
-some_applied _ h k = cc
-
-pub some_tested : (r : Operator) (n : ℕ) → way_of r ≡ ways.Tested → allows (reading_of r) n ≡ true → n ≡ 0 ⊎ n ≡ 1 → ⊥
-some_tested If n h k (inl e) = let j = rw e at k in cc
-some_tested If n h k (inr e) = let j = rw e at k in cc
-some_tested _ n h k e = cc
-
 -- ---- clauses
 
 clause_shape : (f c : Form) (es : Forms) → clause_in f ≡ Some (c, es) → (p : ℕ) × (f ≡ list p (more c es) proper)
@@ -281,12 +211,12 @@ clause_shape (atom p t) c es h = cc
 
 pub clause_alone_made : (d : Bool) (at o w : ℕ) → operator_of w ≡ Cond → (f c : Form) (rs : Forms) (a rest : Core) → clause_in f ≡ Some (c, none) → Expands false c a
     → Expands false (added at (number CondWord) rs) rest → Expands d (applied at o w (more f rs)) (either at a rest)
-clause_alone_made d at o w e f c rs a rest h x y = let s = clause_shape f c none h in rw s.1 (sugar (cond_test e) (or_more or_is x (sugar (or_one or_is) y)))
+clause_alone_made d at o w e f c rs a rest h x y = let s = clause_shape f c none h in rw s.1 (sugar (cond_test e) (or_more (word_is OrWord) x (sugar (or_one (word_is OrWord)) y)))
 
 pub clause_made : (d : Bool) (at o w : ℕ) → operator_of w ≡ Cond → (f c g : Form) (es rs : Forms) (a b rest : Core) → clause_in f ≡ Some (c, more g es) → Expands false c a → Body at (more g es) b
     → Expands false (added at (number CondWord) rs) rest → Expands d (applied at o w (more f rs)) (core at (conditional a b rest))
 clause_made d at o w e f c g es rs a b rest h x y z =
-    let s = clause_shape f c (more g es) h in rw s.1 (sugar (cond_forms e) (if_else if_is x (sequence progn_is y) z))
+    let s = clause_shape f c (more g es) h in rw s.1 (sugar (cond_forms e) (if_else (word_is IfWord) x (sequence (word_is PrognWord) y) z))
 
 pub no_clause_made : (d : Bool) (at o w : ℕ) → operator_of w ≡ Cond → Expands d (applied at o w none) (nil_core at)
 no_clause_made d at o w e = sugar (cond_none e) (nil_made at)
@@ -295,10 +225,10 @@ no_clause_made d at o w e = sugar (cond_none e) (nil_made at)
 
 nested_made : {d : Bool} {at o p w : ℕ} {bs es : Forms} {ns : Bounds} {c : Core} → operator_of w ≡ LetStar → Binds bs ns → Body at es c
     → Expands d (applied at o w (more (list p bs proper) es)) (nested at ns c)
-nested_made e none_bound y = sugar (let_star_none e refl) (bound let_is refl none_bound y)
-nested_made e (one_bound x none_bound) y = sugar (let_star_one e) (bound let_is refl (one_bound x none_bound) y)
+nested_made e none_bound y = sugar (let_star_none e refl) (bound (word_is LetWord) refl none_bound y)
+nested_made e (one_bound x none_bound) y = sugar (let_star_one e) (bound (word_is LetWord) refl (one_bound x none_bound) y)
 nested_made e (one_bound x (one_bound z zs)) y =
-    sugar (let_star_more e) (bound let_is refl (one_bound x none_bound) (one_form (nested_made let_star_is (one_bound z zs) y)))
+    sugar (let_star_more e) (bound (word_is LetWord) refl (one_bound x none_bound) (one_form (nested_made (word_is LetStarWord) (one_bound z zs) y)))
 
 nil_items : (n : Bool) (bs : Forms) → (if n then Some none else None) ≡ Some bs → bs ≡ none
 nil_items true bs h = cc
@@ -306,7 +236,7 @@ nil_items false bs h = cc
 
 none_nested : {d : Bool} {at o w : ℕ} {b : Form} {bs es : Forms} {ns : Bounds} {c : Core} → operator_of w ≡ LetStar → items_of b ≡ Some none → bs ≡ none → Binds bs ns → Body at es c
     → Expands d (applied at o w (more b es)) (nested at ns c)
-none_nested e h k none_bound y = sugar (let_star_none e h) (bound let_is h none_bound y)
+none_nested e h k none_bound y = sugar (let_star_none e h) (bound (word_is LetWord) h none_bound y)
 none_nested e h k (one_bound x xs) y = cc
 
 let_star_made : {d : Bool} {at o w : ℕ} (b : Form) (bs : Forms) {es : Forms} {ns : Bounds} {c : Core} → operator_of w ≡ LetStar → items_of b ≡ Some bs → Binds bs ns → Body at es c

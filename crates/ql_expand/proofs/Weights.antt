@@ -48,16 +48,6 @@ fits_weight fits_lambda = omega arith
 fits_weight fits_qlambda = omega arith
 fits_weight fits_clauses = omega arith
 
-pub operation_weight : (f : Datum) (o w : ℕ) (fs : Forms) → operation_in f ≡ Some ((o, w), fs) → weights fs + 3 ≤ weight f
-operation_weight (list at (more (atom p (symbol v)) gs) proper) o w fs e =
-    let pair : ((p, v), gs) ≡ ((o, w), fs) = cc in
-    let same : gs ≡ fs = ap (λ (q : (ℕ × ℕ) × Forms). q.1) pair in rw (← same) (omega arith)
-operation_weight (list at (more (atom p (symbol v)) gs) (dotted a)) o w fs e = cc
-operation_weight (list at (more (atom p (integer z)) gs) t) o w fs e = cc
-operation_weight (list at (more (list p hs u) gs) t) o w fs e = cc
-operation_weight (list at none t) o w fs e = cc
-operation_weight (atom at a) o w fs e = cc
-
 pub clause_weight : (f c : Datum) (es : Forms) → clause_in f ≡ Some (c, es) → weight c + weights es + 2 ≤ weight f
 clause_weight (list at (more b is) proper) c es e =
     let pair : (b, is) ≡ (c, es) = cc in

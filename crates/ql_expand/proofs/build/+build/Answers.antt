@@ -2,7 +2,7 @@ use Rattle.std.proofs.Common.{◌≡◌, ◌+◌, ◌≤◌, ℕ, arith, sym, ap
 use Rattle.std.specs.Prelude.{false, true, IfOk}
 use Rattle.ql_forms.specs.Form.{Forms, Form, more, none, list, count}
 use Rattle.ql_forms.specs.View.{form_of, forms_of, in_order, tail_of}
-use Rattle.ql_expand.specs.Building.{allows, Becomes, ExpandsAs, EachOf, IsFine, AreFine, AreFineClauses}
+use Rattle.ql_expand.specs.Building.{allows, Becomes, ExpandsAs, EachOf, IsFine, AreFine, IsFineBind, AreFineBinds, AreFineClauses}
 use Rattle.ql_expand.specs.Core.{binder, named}
 use Rattle.ql_expand.specs.Expands.{applied, Expands, Body, no_forms, one_form, forms as turns, InTurn, Bind, Binds}
 use Rattle.ql_expand.specs.Parts.{datum, forms, assignment, bindings, form_and_bindings, parameters, form_and_parameters, clauses}
@@ -12,10 +12,10 @@ use Rattle.ql_expand.specs.Assembly.{nested, nil_core, either, of_each, before_b
 use Rattle.ql_expand.specs.Operator.{reading_of}
 use Rattle.ql_expand.specs.declared.operator.Operator.TheVariants.{Cond}
 use Rattle.ql_expand.proofs.Built.{bind_made, body_turns, cond_none, clause_alone, clause_body, linked_each, on_core, become, allowed, clauses_become, operation_shape, on_form, form_becomes, bind_alone, bind_value}
-use Rattle.ql_expand.proofs.Fine.{parts_fit, has_operation, fine_value, fine_clause, fine_first, fine_first_clause, fine_at, fine_bind_at, fine_before}
+use Rattle.ql_expand.proofs.Fine.{parts_fit, fine_value, fine_clause, fine_first, fine_first_bind, fine_first_clause, at_place, fine_before}
 use Rattle.ql_expand.proofs.Gathering.{gathered_more, gathered_all, turns_all, bound_more, bound_all}
 use Rattle.ql_expand.proofs.Making.{atom_made, each_used, each_made, sequence_made, printed_made, tested_made, applied_made, before_made, quote_becomes, let_becomes, let_star_becomes, qlet_becomes, lambda_becomes, qlambda_becomes, setq_becomes, no_clause_made}
-use Rattle.ql_expand.proofs.Weights.{weight, weights, split_weight, fits_weight, operation_weight, clause_weight, weight_at, weight_before}
+use Rattle.ql_expand.proofs.Weights.{weight, weights, split_weight, fits_weight, clause_weight, weight_at, weight_before}
 use Rattle.ql_expand.proofs.build.+build.Goals as goal
 
 -- ---- loops
@@ -25,7 +25,7 @@ all_bound-bind-requires t c =
     let xs = c.args.forms.now in
     let i = c.loop-form.form-index in
     let x = c.form-item.result in
-    (omega (arith, weight_at xs i x c.loop-form-test.true c.form-item.is), fine_bind_at xs i x c.requires c.loop-form-test.true c.form-item.is)
+    (omega (arith, weight_at xs i x c.loop-form-test.true c.form-item.is), at_place AreFineBinds IsFineBind fine_first_bind xs i x c.requires c.loop-form-test.true c.form-item.is)
 
 pub all_bound-loop-form-preserved : goal.all_bound-loop-form-preserved
 all_bound-loop-form-preserved t c =
@@ -42,7 +42,7 @@ each-expanded-requires t c =
     let xs = c.args.forms.now in
     let i = c.loop-form.form-index in
     let x = c.form-item.result in
-    (omega (arith, weight_at xs i x c.loop-form-test.true c.form-item.is), fine_at xs i x c.requires c.loop-form-test.true c.form-item.is)
+    (omega (arith, weight_at xs i x c.loop-form-test.true c.form-item.is), at_place AreFine IsFine fine_first xs i x c.requires c.loop-form-test.true c.form-item.is)
 
 pub each-loop-form-preserved : goal.each-loop-form-preserved
 each-loop-form-preserved t c =
@@ -85,8 +85,8 @@ expanded-applied-requires t c =
     let o = c.in-Some-operation.head.at.0 in
     let w = c.in-Some-operation.head.number in
     let fs = forms_of c.in-Some-operation.parts.now in
-    let e = operation_shape f o w fs c.in_default.ensures c.in-Some-operation.ensures in (
-      omega (arith, operation_weight f o w fs c.in-Some-operation.ensures),
+    let e = operation_shape f o w fs c.in-Some-operation.ensures in (
+      omega (arith, ap weight e),
       subst IsFine (e ∙ ap (λ at. applied at o w fs) (sym c.offset.ensures)) c.requires,
     )
 
