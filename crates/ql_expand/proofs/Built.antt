@@ -5,36 +5,35 @@ use Rattle.std.proofs.lemmas.Bool.Decides.{nat_tests}
 use Rattle.ql_base.specs.Reserved.{number}
 use Rattle.ql_base.specs.declared.reserved.Reserved.TheVariants.{Cond as CondWord}
 use Rattle.ql_expand.specs.declared.assemble.Way.TheVariants as ways
-use Rattle.ql_expand.proofs.Making.{word_is, no_clause_made, clause_alone_made, clause_made, linked_made, alone_made, each_used}
+use Rattle.ql_expand.proofs.Making.{word_is, no_clause_made, clause_alone_made, clause_made}
 use Rattle.std.specs.declared.alloc.AllocError.{AllocError}
 use Rattle.ql_forms.specs.Form.{Form, Forms, none, more, atom, list, Tail, proper, dotted, symbol, integer, operation_in, place_of, count}
 use Rattle.ql_expand.specs.Assembly.{nil_core, either, of_each, way_of}
-use Rattle.ql_expand.specs.Building.{Fits, fits_forms, fits_clauses, allows, Becomes, ExpandsAs, IsList, EachOf, none_of, one_of}
+use Rattle.ql_expand.specs.Building.{Fits, fits_datum, fits_forms, allows, AreFine, ExpandsAs, weight}
 use Rattle.ql_expand.specs.Core as spec
 use Rattle.ql_expand.specs.Core.{binder, named}
-use Rattle.ql_expand.specs.Expands.{applied, one, Expands, Body, forms as turns, InTurn, none_left, Bind, with_value, without_value, alone}
+use Rattle.ql_expand.specs.Expands.{applied, one, Expands, Body, forms as turns, InTurn, last_form, then_forms, Bind, with_value, without_value, alone}
 use Rattle.ql_expand.specs.Operator.{operator_of, reading_of}
-use Rattle.ql_expand.specs.Parts.{Split, forms, clauses, bind_in, clause_in}
+use Rattle.ql_expand.specs.Parts.{Split, forms, definition, bind_in, clause_in}
 use Rattle.ql_expand.specs.View.{core_of}
 use Rattle.ql_expand.specs.declared.core_form.Core.{Core}
 use Rattle.ql_expand.specs.declared.operator.Operator.{Operator}
 use Rattle.ql_expand.specs.declared.operator.Operator.TheVariants.{Cond, And, Or}
-use Rattle.ql_expand.proofs.Weights.{weight, weights}
 
 pub on_core : (r : Result Core AllocError) (P Q : spec.Core → Type 0) → ((k : spec.Core) → P k → Q k) → IfOk r (λ k. P (core_of k)) → IfOk r (λ k. Q (core_of k))
 on_core (Ok k) P Q f h = f (core_of k) h
 on_core (Err e) P Q f h = h
 
-pub become : (r : Result Core AllocError) (at o w : ℕ) (d : Bool) (fs : Forms) (p : Operator) (s : Split) → p ≡ operator_of w → Fits p fs s
-    → IfOk r (λ k. Becomes at p s (core_of k)) → IfOk r (λ k. Expands d (applied at o w fs) (core_of k))
-become r at o w d fs p s e fit = on_core r (Becomes at p s) (Expands d (applied at o w fs)) (λ k b. b d o w fs (sym e) fit)
+pub when_made : (r : Result Core AllocError) {e : spec.Core} {d : Bool} {f : Form} → IfOk r (λ k. core_of k ≡ e) → Expands d f e → IfOk r (λ k. Expands d f (core_of k))
+when_made (Ok k) h x = rw h x
+when_made (Err a) h x = h
 
-pub allowed : {r : Operator} {fs gs : Forms} → Fits r fs (forms gs) → (allows (reading_of r) (count gs) ≡ true) × (gs ≡ fs)
-allowed (fits_forms h) = (h, refl)
+pub forms_fit : {p r : Operator} {fs gs : Forms} → Fits r fs (forms gs) → p ≡ r → AreFine gs → (allows (reading_of p) (count fs) ≡ true) × AreFine fs
+forms_fit (fits_forms h) q y = (rw q h, y)
 
-pub clauses_become : {r : Operator} {at o w : ℕ} {d : Bool} {fs cs : Forms} {k : spec.Core} → Fits r fs (clauses cs) → r ≡ operator_of w → ExpandsAs at Cond cs k
-    → Expands d (applied at o w fs) k
-clauses_become {o = o} {w = w} {d = d} fits_clauses e x = x d o w (sym e)
+pub no_definition : {r : Operator} {fs es : Forms} {s : Split} {o v : ℕ} {ps : Form} → Fits r fs s → s ≡ definition o v ps es → ⊥
+no_definition fits_datum e = cc
+no_definition _ e = cc
 
 pub operation_shape : (f : Form) (o w : ℕ) (fs : Forms) → operation_in f ≡ Some ((o, w), fs) → f ≡ applied (place_of f) o w fs
 operation_shape (list at (more (atom p (symbol v)) gs) proper) o w fs k =
@@ -49,9 +48,6 @@ operation_shape (list at (more (atom p (integer z)) gs) t) o w fs k = cc
 operation_shape (list at (more (list p hs u) gs) t) o w fs k = cc
 operation_shape (list at none t) o w fs k = cc
 operation_shape (atom at a) o w fs k = cc
-
-pub on_form : (r : Result Core AllocError) (d : Bool) (f g : Form) → f ≡ g → IfOk r (λ k. Expands d g (core_of k)) → IfOk r (λ k. Expands d f (core_of k))
-on_form r d f g e h = subst (λ (x : Form). IfOk r (λ k. Expands d x (core_of k))) (sym e) h
 
 pub form_becomes : (d : Bool) (f g : Form) (k : spec.Core) → f ≡ g → Expands d g k → Expands d f k
 form_becomes d f g k e h = subst (λ (x : Form). Expands d x k) (sym e) h
@@ -88,11 +84,6 @@ bind_made f b n k e h = rw e h
 
 -- ---- bodies and clauses
 
-pub body_turns : {at : ℕ} {fs gs hs : Forms} {f g : Form} {cs : spec.Cores} → fs ≡ more f gs → gs ≡ more g hs → InTurn fs cs → Body at fs (spec.core at (spec.progn cs))
-body_turns {at = at} {fs = fs} {f = f} {cs = cs} e k h =
-    let all = e ∙ ap (more f) k in
-    subst (λ is. Body at is (spec.core at (spec.progn cs))) (sym all) (turns (subst (λ is. InTurn is cs) all h))
-
 pub cond_none : {at : ℕ} {fs : Forms} {k : spec.Core} → fs ≡ none → k ≡ nil_core at → ExpandsAs at Cond fs k
 cond_none {at = at} p q d o w h = rw (p, q) (no_clause_made d at o w h)
 
@@ -105,22 +96,3 @@ pub clause_body : (at : ℕ) (f c g : Form) (es gs rs : Forms) (a b rest k : spe
     → ExpandsAs at Cond rs rest → k ≡ spec.core at (spec.conditional a b rest) → ExpandsAs at Cond (more f rs) k
 clause_body at f c g es gs rs a b rest k e p x y z q d o w h =
     rw q (clause_made d at o w h f c g gs rs a b rest (e ∙ ap (λ (is : Forms). Some (c, is)) p) x (subst (λ is. Body at is b) p y) (z false at (number CondWord) (word_is CondWord)))
-
--- ---- forms of `and` and `or`
-
-linked_one : (r : Operator) (at o w : ℕ) (c : spec.Core) → way_of r ≡ ways.Linked → c ≡ of_each r at o w (spec.and_core c spec.no_cores)
-linked_one And at o w c h = refl
-linked_one Or at o w c h = refl
-linked_one _ at o w c h = cc
-
-pub linked_each : {at o w n : ℕ} {d e : Bool} {r : Operator} {fs : Forms} {cs : spec.Cores} → operator_of w ≡ r → way_of r ≡ ways.Linked → e ≡ ((n == 1) && d) → count fs ≡ n → EachOf e fs cs
-    → Expands d (applied at o w fs) (of_each r at o w cs)
-linked_each {at = at} {o = o} {w = w} {d = d} {r = r} p h q k none_of = linked_made d at o w r p h none spec.no_cores (λ i. absurd (omega arith)) none_left
-linked_each {at = at} {o = o} {w = w} {n = n} {d = d} {r = r} p h q k (one_of {e = f} {c = c} x none_of) =
-    let same : d ≡ _ = sym (q ∙ ap (λ m. (m == 1) && d) (sym k)) in
-    subst (Expands d (applied at o w (one f))) (linked_one r at o w c h) (alone_made d at o w r p h f c (subst (λ b. Expands b f c) (sym same) x))
-linked_each {at = at} {o = o} {w = w} {n = n} {d = d} {r = r} p h q k (one_of {e = f} {c = c} x (one_of {e = g} {fs = fs} {c = i} {cs = cs} y ys)) =
-    let long : (n == 1) ≡ false = grind (arith, nat_tests) in
-    let used = q ∙ ap (λ b. b && d) long in
-    linked_made d at o w r p h (more f (more g fs)) (spec.and_core c (spec.and_core i cs)) (λ j. absurd (omega arith))
-    (each_used (subst (λ b. EachOf b (more f (more g fs)) (spec.and_core c (spec.and_core i cs))) used (one_of x (one_of y ys))))

@@ -1,16 +1,19 @@
 -- What loops over forms have built so far.
-use Rattle.std.proofs.Common.{◌≡◌, ℕ, ◌+◌, ◌<◌, ◌≤◌, List, [], ◌∷◌, ◌++◌, length, get_or, drop, refl, sym, ap, subst, ◌∙◌}
-use Rattle.std.specs.Prelude.{Bool, true, false}
-use Rattle.ql_forms.specs.Form.{Form as Datum, Forms, none, more}
+use Rattle.std.proofs.Common.{◌≡◌, ℕ, ◌+◌, ◌<◌, ◌≤◌, List, [], ◌∷◌, ◌++◌, length, get_or, drop, refl, sym, ap, subst, ◌∙◌, arith, length-append}
+use Rattle.std.specs.Prelude.{Bool, true, false, ◌==◌}
+use Rattle.std.proofs.lemmas.Bool.Decides.{nat_tests}
+use Rattle.ql_forms.specs.Form.{Form as Datum, Forms, none, more, count}
 use Rattle.ql_forms.specs.View.{form_of, forms_of}
 use Rattle.ql_forms.specs.declared.form.Form.{Form}
+use Rattle.ql_expand.specs.Assembly.{nil_core}
 use Rattle.ql_expand.specs.Building.{EachOf, none_of, one_of}
 use Rattle.ql_expand.specs.Core as spec
-use Rattle.ql_expand.specs.Core.{Cores, no_cores, and_core, joined_cores, Bounds, no_bounds, and_bound, joined_bounds}
-use Rattle.ql_expand.specs.Expands.{Expands, InTurn, last_form, then_forms, Bind, Binds, none_bound, one_bound}
+use Rattle.ql_expand.specs.Core.{core, progn, Cores, no_cores, and_core, joined_cores, Bounds, no_bounds, and_bound, joined_bounds}
+use Rattle.ql_expand.specs.Expands.{Expands, Body, no_forms, one_form, forms, InTurn, last_form, then_forms, Bind, Binds, none_bound, one_bound}
 use Rattle.ql_expand.specs.View.{core_of, cores_of, bound_of, bounds_of}
 use Rattle.ql_expand.specs.declared.core_form.Bound.{Bound}
 use Rattle.ql_expand.specs.declared.core_form.Core.{Core}
+use Rattle.ql_expand.proofs.Counts.{as_many}
 use Rattle.ql_expand.proofs.Weights.{drop_at, drop_all}
 
 -- These cores, and more of them for the forms from this place on, are those of all the forms.
@@ -53,12 +56,30 @@ turns none_of y = last_form y
 turns (one_of u none_of) y = then_forms u (last_form y)
 turns (one_of u (one_of v vs)) y = then_forms u (turns (one_of v vs) y)
 
-pub turns_all : (all xs : List Form) (x : Form) (now cs : List Core) (c : Core) → all ≡ xs ++ x ∷ [] → now ≡ cs ++ c ∷ [] → EachOf true (forms_of xs) (cores_of cs)
-    → Expands false (form_of x) (core_of c) → InTurn (forms_of all) (cores_of now)
-turns_all all xs x now cs c e p y z =
+not_empty : (xs : List Form) (b : Bool) → b ≡ (length xs == 0) → b ≡ false → 1 ≤ length xs
+not_empty [] b e f = cc
+not_empty (x ∷ xs) b e f = omega arith
+
+as_turns : {at : ℕ} {fs : Forms} {cs : Cores} → InTurn fs cs → 2 ≤ count fs → Body at fs (core at (progn cs))
+as_turns (last_form x) h = absurd (omega arith)
+as_turns (then_forms x xs) h = forms (then_forms x xs)
+
+pub body_none : {at : ℕ} (fs : List Form) → length fs ≡ 0 → Body at (forms_of fs) (nil_core at)
+body_none [] h = no_forms
+body_none (x ∷ fs) h = absurd (omega arith)
+
+pub body_alone : {at : ℕ} {k : spec.Core} (fs xs : List Form) (x : Form) (b : Bool) → fs ≡ xs ++ x ∷ [] → b ≡ (length xs == 0) → b ≡ true → Expands false (form_of x) k
+    → Body at (forms_of fs) k
+body_alone fs [] x b e f t y = rw e (one_form y)
+body_alone fs (z ∷ xs) x b e f t y = let none : length (z ∷ xs) ≡ 0 = grind (arith, nat_tests) in absurd (omega arith)
+
+pub body_turns : {at : ℕ} (fs xs : List Form) (x : Form) (now cs : List Core) (c : Core) (b : Bool) → fs ≡ xs ++ x ∷ [] → b ≡ (length xs == 0) → b ≡ false → now ≡ cs ++ c ∷ []
+    → EachOf true (forms_of xs) (cores_of cs) → Expands false (form_of x) (core_of c) → Body at (forms_of fs) (core at (progn (cores_of now)))
+body_turns fs xs x now cs c b e f t p y z =
     let made : cores_of now ≡ joined_cores (cores_of cs) (and_core (core_of c) no_cores) =
     ap cores_of p ∙ sym (cores_alone (cs ++ c ∷ [])) ∙ cores_last cs c no_cores in
-    rw (made, e, appended_is xs x) (turns y z)
+    let many : 2 ≤ count (forms_of fs) = omega (arith, as_many fs, ap length e, length-append xs (x ∷ []), not_empty xs b f t) in
+    let turned : InTurn (forms_of fs) (cores_of now) = rw (made, e, appended_is xs x) (turns y z) in as_turns turned many
 
 -- ---- bindings
 

@@ -13,6 +13,7 @@ ghost use Rattle.ql_expand.specs.Tops.{Adds, IsFineTop, with_core, with_function
 ghost use Rattle.ql_expand.specs.View.{core_of, cores_of, function_of};
 ghost use Rattle.ql_expand.specs.declared.operator.Operator.TheVariants.{Defun, Defvar};
 
+use crate::assemble::Maker;
 use crate::build::{body, boxed, expanded, parameters};
 use crate::core_form::{Core, Function, Node};
 use crate::laws::expanded_numbers;
@@ -134,7 +135,7 @@ fn definition<'a>(alloc: Global, at: Offset, parts: &'a [Form]) -> Result<Top<'a
         unreachable!()
     };
     let params = parameters(alloc, params)?;
-    let body = body(alloc, at, forms)?;
+    let body = body(Maker { alloc, at }, forms)?;
     Ok(Top::Function(Function {
         name: name.number,
         at,
