@@ -14,30 +14,21 @@ use Rattle.ql_expand.specs.View.{core_of, cores_of, bound_of, bounds_of}
 use Rattle.ql_expand.specs.declared.core_form.Bound.{Bound}
 use Rattle.ql_expand.specs.declared.core_form.Core.{Core}
 use Rattle.ql_expand.proofs.Counts.{as_many}
-use Rattle.ql_expand.proofs.Weights.{drop_at, drop_all}
 
--- These cores, and more of them for the forms from this place on, are those of all the forms.
-abbrev pub Gathered : Bool → List Form → ℕ → List Core → Type 0
-Gathered d xs i cs = (ds : Cores) → EachOf d (forms_of (drop i xs)) ds → EachOf d (forms_of xs) (joined_cores (cores_of cs) ds)
+-- cores that values stand for, and then more of them
+abbrev pub with_cores : List Core → Cores → Cores
+with_cores cs ds = joined_cores (cores_of cs) ds
 
-pub cores_last : (cs : List Core) (c : Core) (ds : Cores) → joined_cores (cores_of (cs ++ c ∷ [])) ds ≡ joined_cores (cores_of cs) (and_core (core_of c) ds)
+abbrev pub then_core : Core → Cores → Cores
+then_core c ds = and_core (core_of c) ds
+
+pub cores_last : (cs : List Core) (c : Core) (ds : Cores) → with_cores (cs ++ c ∷ []) ds ≡ with_cores cs (then_core c ds)
 cores_last [] c ds = refl
-cores_last (b ∷ cs) c ds = ap (λ es. and_core (core_of b) es) (cores_last cs c ds)
+cores_last (b ∷ cs) c ds = ap (then_core b) (cores_last cs c ds)
 
-pub cores_alone : (cs : List Core) → joined_cores (cores_of cs) no_cores ≡ cores_of cs
+pub cores_alone : (cs : List Core) → with_cores cs no_cores ≡ cores_of cs
 cores_alone [] = refl
-cores_alone (b ∷ cs) = ap (λ es. and_core (core_of b) es) (cores_alone cs)
-
-pub gathered_more : (d : Bool) (xs : List Form) (i : ℕ) (cs now : List Core) (x : Form) (c : Core) → Gathered d xs i cs → i < length xs → x ≡ get_or xs i x
-    → Expands d (form_of x) (core_of c) → now ≡ cs ++ c ∷ [] → Gathered d xs (i + 1) now
-gathered_more d xs i cs now x c g h e y p ds rest =
-    let here : EachOf d (forms_of (drop i xs)) (and_core (core_of c) ds) =
-    subst (λ ys. EachOf d (forms_of ys) (and_core (core_of c) ds)) (sym (drop_at xs i x h e)) (one_of y rest) in
-    subst (EachOf d (forms_of xs)) (sym (ap (λ es. joined_cores (cores_of es) ds) p ∙ cores_last cs c ds)) (g (and_core (core_of c) ds) here)
-
-pub gathered_all : (d : Bool) (xs : List Form) (i : ℕ) (cs : List Core) → Gathered d xs i cs → length xs ≤ i → EachOf d (forms_of xs) (cores_of cs)
-gathered_all d xs i cs g h =
-    subst (EachOf d (forms_of xs)) (cores_alone cs) (g no_cores (subst (λ ys. EachOf d (forms_of ys) no_cores) (sym (drop_all xs i h)) none_of))
+cores_alone (b ∷ cs) = ap (then_core b) (cores_alone cs)
 
 -- ---- forms of which the last is used
 
@@ -83,25 +74,16 @@ body_turns fs xs x now cs c b e f t p y z =
 
 -- ---- bindings
 
-abbrev pub Bound_so_far : List Form → ℕ → List Bound → Type 0
-Bound_so_far xs i bs = (ds : Bounds) → Binds (forms_of (drop i xs)) ds → Binds (forms_of xs) (joined_bounds (bounds_of bs) ds)
+abbrev pub with_bounds : List Bound → Bounds → Bounds
+with_bounds bs ds = joined_bounds (bounds_of bs) ds
 
-bounds_last : (bs : List Bound) (b : Bound) (ds : Bounds)
-    → joined_bounds (bounds_of (bs ++ b ∷ [])) ds ≡ joined_bounds (bounds_of bs) (and_bound (bound_of b).0 (bound_of b).1 ds)
+abbrev pub then_bound : Bound → Bounds → Bounds
+then_bound b ds = and_bound (bound_of b).0 (bound_of b).1 ds
+
+pub bounds_last : (bs : List Bound) (b : Bound) (ds : Bounds) → with_bounds (bs ++ b ∷ []) ds ≡ with_bounds bs (then_bound b ds)
 bounds_last [] b ds = refl
-bounds_last (c ∷ bs) b ds = ap (λ es. and_bound (bound_of c).0 (bound_of c).1 es) (bounds_last bs b ds)
+bounds_last (c ∷ bs) b ds = ap (then_bound c) (bounds_last bs b ds)
 
-bounds_alone : (bs : List Bound) → joined_bounds (bounds_of bs) no_bounds ≡ bounds_of bs
+pub bounds_alone : (bs : List Bound) → with_bounds bs no_bounds ≡ bounds_of bs
 bounds_alone [] = refl
-bounds_alone (c ∷ bs) = ap (λ es. and_bound (bound_of c).0 (bound_of c).1 es) (bounds_alone bs)
-
-pub bound_more : (xs : List Form) (i : ℕ) (bs now : List Bound) (x : Form) (b : Bound) → Bound_so_far xs i bs → i < length xs → x ≡ get_or xs i x
-    → Bind (form_of x) (bound_of b).0 (bound_of b).1 → now ≡ bs ++ b ∷ [] → Bound_so_far xs (i + 1) now
-bound_more xs i bs now x b g h e y p ds rest =
-    let all = and_bound (bound_of b).0 (bound_of b).1 ds in
-    let here : Binds (forms_of (drop i xs)) all = subst (λ ys. Binds (forms_of ys) all) (sym (drop_at xs i x h e)) (one_bound y rest) in
-    subst (Binds (forms_of xs)) (sym (ap (λ es. joined_bounds (bounds_of es) ds) p ∙ bounds_last bs b ds)) (g all here)
-
-pub bound_all : (xs : List Form) (i : ℕ) (bs : List Bound) → Bound_so_far xs i bs → length xs ≤ i → Binds (forms_of xs) (bounds_of bs)
-bound_all xs i bs g h =
-    subst (Binds (forms_of xs)) (bounds_alone bs) (g no_bounds (subst (λ ys. Binds (forms_of ys) no_bounds) (sym (drop_all xs i h)) none_bound))
+bounds_alone (c ∷ bs) = ap (then_bound c) (bounds_alone bs)

@@ -25,41 +25,20 @@ use Rattle.ql_expand.specs.declared.operator.Reading.{Reading}
 use Rattle.ql_expand.specs.declared.operator.Reading.TheVariants.{Global, Definition}
 use Rattle.ql_expand.specs.declared.top.Top.{Top}
 use Rattle.ql_expand.specs.declared.top.Tops.{Tops}
-use Rattle.ql_expand.proofs.Fine.{neither, undeep, fine_split}
+use Rattle.ql_expand.proofs.Fine.{neither, undeep, fine_split, at_place}
 use Rattle.ql_expand.proofs.Splits.{form_is}
-use Rattle.ql_expand.proofs.Weights.{drop_at, drop_all}
-
--- one core more
-pub pushed : (xs : List Core) (x : Core) (cs : Cores) → joined_cores (cores_of (xs ++ x ∷ [])) cs ≡ joined_cores (cores_of xs) (and_core (core_of x) cs)
-pushed [] x cs = refl
-pushed (y ∷ xs) x cs = ap (and_core (core_of y)) (pushed xs x cs)
+use Rattle.ql_expand.proofs.Counts.{rest, nothing_left}
+use Rattle.ql_expand.proofs.Gathering.{cores_last, cores_alone}
 
 pub pushed_core : {A E : Type 0} (r : Result A E) (xs ys : List Core) (x : Core) (cs : Cores) → OnOk r (ys ≡ xs ++ x ∷ [])
     → OnOk r (joined_cores (cores_of ys) cs ≡ joined_cores (cores_of xs) (and_core (core_of x) cs))
-pushed_core (Ok a) xs ys x cs e = ap (λ z. joined_cores (cores_of z) cs) e ∙ pushed xs x cs
+pushed_core (Ok a) xs ys x cs e = ap (λ z. joined_cores (cores_of z) cs) e ∙ cores_last xs x cs
 pushed_core (Err a) xs ys x cs e = tt
-
-pub none_more : (cs : Cores) → joined_cores cs no_cores ≡ cs
-none_more no_cores = refl
-none_more (and_core c cs) = ap (and_core c) (none_more cs)
-
-none_there : (xs : List Form) (i : ℕ) → length xs ≤ i → forms_of (drop i xs) ≡ none
-none_there xs i le = ap forms_of (drop_all xs i le)
-
--- the forms from a place on
-pub from_there : (xs : List Form) (i : ℕ) (x : Form) → i < length xs → x ≡ get_or xs i x → forms_of (drop i xs) ≡ more (form_of x) (forms_of (drop (i + 1) xs))
-from_there xs i x lt e = ap forms_of (drop_at xs i x lt e)
 
 -- a top form at a place has no fault
 pub fine_top_at : (names : List (List ℕ)) (xs : List Form) (i : ℕ) (x : Form) → source_faults names (forms_of xs) ≡ [] → i < length xs → x ≡ get_or xs i x → IsFineTop (form_of x)
-fine_top_at names [] i x h lt e = absurd (omega (arith, lt))
-fine_top_at names (y ∷ xs) zero x h lt e =
-    (names, subst (λ z. form_faults names true 1 (form_of z) ≡ []) (sym e) (neither (form_faults names true 1 (form_of y)) (source_faults names (forms_of xs)) h).0)
-fine_top_at names (y ∷ xs) (suc i) x h lt e =
-    fine_top_at names xs i x (neither (form_faults names true 1 (form_of y)) (source_faults names (forms_of xs)) h).1 (omega (arith, lt)) e
-
-pub made_none : (all : List Form) (t : Tops) → t.functions ≡ [] → t.globals ≡ [] → t.body ≡ [] → Made all 0 t
-made_none all t f g b fs ns cs h = rw (f, g, b) h
+fine_top_at names =
+    at_place (λ fs. source_faults names fs ≡ []) IsFineTop (λ f fs h. let both = neither (form_faults names true 1 f) (source_faults names fs) h in ((names, both.0), both.1))
 
 pub made_next : (all : List Form) (i : ℕ) (x : Form) (t u : Tops) (top : Top) → Made all i t → i < length all → x ≡ get_or all i x → Adds (form_of x) top
     → ((after : List _) → map function_of u.functions ++ after ≡ map function_of t.functions ++ with_function top after)
@@ -67,13 +46,13 @@ pub made_next : (all : List Form) (i : ℕ) (x : Form) (t u : Tops) (top : Top) 
     → ((after : Cores) → joined_cores (cores_of u.body) after ≡ joined_cores (cores_of t.body) (with_core top after)) → Made all (i + 1) u
 made_next all i x t u top made lt e adds f g b fs ns cs h =
     rw (f fs, g ns, b cs) (made (with_function top fs) (with_global top ns) (with_core top cs)
-    (subst (λ z. TopForms z (with_function top fs) (with_global top ns) (with_core top cs)) (sym (from_there all i x lt e)) (adds (forms_of (drop (i + 1) all)) fs ns cs h)))
+    (subst (λ z. TopForms z (with_function top fs) (with_global top ns) (with_core top cs)) (sym (rest all i x lt e)) (adds (forms_of (drop (i + 1) all)) fs ns cs h)))
 
 pub made_all : (all : List Form) (i : ℕ) (t : Tops) → Made all i t → length all ≤ i → TopForms (forms_of all) (map function_of t.functions) t.globals (cores_of t.body)
 made_all all i t made le =
-    let end : TopForms (forms_of (drop i all)) [] [] no_cores = subst (λ z. TopForms z [] [] no_cores) (sym (none_there all i le)) no_tops in
+    let end : TopForms (forms_of (drop i all)) [] [] no_cores = subst (λ z. TopForms z [] [] no_cores) (sym (nothing_left all i le)) no_tops in
     let whole = made [] [] no_cores end in
-    rw (← append-nil (map function_of t.functions), ← append-nil t.globals, ← none_more (cores_of t.body)) whole
+    rw (← append-nil (map function_of t.functions), ← append-nil t.globals, ← cores_alone t.body) whole
 
 -- what reads as a definition is one
 pub definition_is : (fs : Forms) (o v : ℕ) (ps : Datum) (es : Forms) → definition o v ps es ≡ definition_by fs → fs ≡ more (atom o (symbol v)) (more ps es)

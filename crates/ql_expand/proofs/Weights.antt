@@ -57,17 +57,3 @@ weight_before (y ∷ xs) x = omega (arith, weight_before xs x)
 pub ends : {fs : List Form} (xs : List Form) (x : Form) → fs ≡ xs ++ x ∷ [] → AreFine (forms_of fs)
     → (AreFine (forms_of xs) × IsFine (form_of x)) × (weights (forms_of fs) ≡ weights (forms_of xs) + (weight (form_of x) + 1))
 ends xs x e h = (fine_before xs x (subst (λ (ys : List Form). AreFine (forms_of ys)) e h), ap (λ (ys : List Form). weights (forms_of ys)) e ∙ weight_before xs x)
-
-pub drop_at : (xs : List Form) (i : ℕ) (x : Form) → i < length xs → x ≡ get_or xs i x → drop i xs ≡ x ∷ drop (i + 1) xs
-drop_at [] i x h e = absurd (omega arith)
-drop_at (y ∷ xs) zero x h e = rw (sym e) refl
-drop_at (y ∷ xs) (suc i) x h e =
-    let within : i < length xs = omega arith in
-    let n : suc i + 1 ≡ suc (i + 1) = omega arith in
-    rw n (drop_at xs i x within e)
-
-pub drop_all : (xs : List Form) (i : ℕ) → length xs ≤ i → drop i xs ≡ []
-drop_all [] zero h = refl
-drop_all [] (suc i) h = refl
-drop_all (x ∷ xs) zero h = absurd (omega arith)
-drop_all (x ∷ xs) (suc i) h = drop_all xs i (omega arith)

@@ -3,16 +3,17 @@ use Rattle.std.proofs.Common.{◌≡◌, ◌+◌, ◌≤◌, ℕ, arith, sym, ap
 use Rattle.std.specs.Prelude.{Bool, true, false}
 use Rattle.ql_forms.specs.Form.{more}
 use Rattle.ql_forms.specs.View.{form_of, forms_of}
-use Rattle.ql_expand.specs.Building.{ExpandsAs, EachOf, weight, weights, IsFine, AreFine, IsFineBind, AreFineBinds, AreFineClauses}
-use Rattle.ql_expand.specs.Core.{binder, named}
-use Rattle.ql_expand.specs.Expands.{applied, Expands, Body, no_forms, one_form, Binds}
+use Rattle.ql_expand.specs.Building.{ExpandsAs, EachOf, none_of, one_of, weight, weights, IsFine, AreFine, IsFineBind, AreFineBinds, AreFineClauses}
+use Rattle.ql_expand.specs.Core.{binder, named, no_cores, no_bounds}
+use Rattle.ql_expand.specs.Expands.{applied, Expands, Body, Binds, none_bound, one_bound}
 use Rattle.ql_expand.specs.View.{core_of, cores_of, bound_of, bounds_of}
 use Rattle.ql_expand.proofs.Counts.{as_many}
 use Rattle.ql_expand.specs.Assembly.{nil_core, either}
 use Rattle.ql_expand.specs.declared.operator.Operator.TheVariants.{Cond}
 use Rattle.ql_expand.proofs.Built.{bind_made, cond_none, clause_alone, clause_body, on_core, when_made, forms_fit, no_definition, operation_shape, form_becomes, bind_alone, bind_value}
 use Rattle.ql_expand.proofs.Fine.{fine_value, fine_clause, fine_first, fine_first_bind, fine_first_clause, at_place}
-use Rattle.ql_expand.proofs.Gathering.{gathered_more, gathered_all, body_none, body_alone, body_turns, bound_more, bound_all}
+use Rattle.ql_expand.proofs.Gathering.{with_cores, then_core, cores_last, cores_alone, with_bounds, then_bound, bounds_last, bounds_alone, body_none, body_alone, body_turns}
+use Rattle.ql_expand.proofs.Loops.{so_far_more, so_far_all}
 use Rattle.ql_expand.proofs.Making.{atom_seen, each_made, sequence_made, printed_made, tested_made, applied_made, before_made, quote_made, let_made, qlet_made, lambda_made, qlambda_made, setq_made, cond_made}
 use Rattle.ql_expand.proofs.Weights.{clause_weight, weight_at, ends}
 use Rattle.ql_expand.proofs.build.+build.Goals as goal
@@ -28,13 +29,13 @@ all_bound-bind-requires t c =
 
 pub all_bound-loop-form-preserved : goal.all_bound-loop-form-preserved
 all_bound-loop-form-preserved t c =
-    bound_more c.args.forms.now c.loop-form.form-index c.loop-form.bounds.items c.push.new.self.items c.form-item.result c.in_ok-bound.bound c.loop-form.invariant
-    c.loop-form-test.true c.form-item.is c.in_ok-bound.ensures c.in_ok-push.ensures.items
+    so_far_more Binds with_bounds then_bound bounds_last c.args.forms.now c.loop-form.form-index c.loop-form.bounds.items c.push.new.self.items c.form-item.result c.in_ok-bound.bound
+    c.loop-form.invariant c.loop-form-test.true c.form-item.is (λ fs bs. one_bound c.in_ok-bound.ensures) c.in_ok-push.ensures.items
 
 pub all_bound-returns : goal.all_bound-returns
 all_bound-returns t c =
-    subst (Binds (forms_of c.args.forms.now)) (sym (ap bounds_of c.from_vec.ensures))
-    (bound_all c.args.forms.now c.loop-form.form-index c.loop-form.bounds.items c.loop-form.invariant c.loop-form-test.false)
+    subst (Binds (forms_of c.args.forms.now)) (bounds_alone _ ∙ sym (ap bounds_of c.from_vec.ensures))
+    (so_far_all Binds with_bounds no_bounds c.args.forms.now c.loop-form.form-index c.loop-form.bounds.items c.loop-form.invariant c.loop-form-test.false none_bound)
 
 pub each-expanded-requires : goal.each-expanded-requires
 each-expanded-requires t c =
@@ -45,11 +46,13 @@ each-expanded-requires t c =
 
 pub each-loop-form-preserved : goal.each-loop-form-preserved
 each-loop-form-preserved t c =
-    gathered_more c.args.dropped c.args.forms.now c.loop-form.form-index c.loop-form.cores.items c.push.new.self.items c.form-item.result c.in_ok-core.core c.loop-form.invariant
-    c.loop-form-test.true c.form-item.is c.in_ok-core.ensures c.in_ok-push.ensures.items
+    so_far_more (EachOf c.args.dropped) with_cores then_core cores_last c.args.forms.now c.loop-form.form-index c.loop-form.cores.items c.push.new.self.items c.form-item.result c.in_ok-core.core
+    c.loop-form.invariant c.loop-form-test.true c.form-item.is (λ fs cs. one_of c.in_ok-core.ensures) c.in_ok-push.ensures.items
 
 pub each-returns : goal.each-returns
-each-returns t c = gathered_all c.args.dropped c.args.forms.now c.loop-form.form-index c.loop-form.cores.items c.loop-form.invariant c.loop-form-test.false
+each-returns t c =
+    subst (EachOf c.args.dropped (forms_of c.args.forms.now)) (cores_alone _)
+    (so_far_all (EachOf c.args.dropped) with_cores no_cores c.args.forms.now c.loop-form.form-index c.loop-form.cores.items c.loop-form.invariant c.loop-form-test.false none_of)
 
 -- ---- forms
 

@@ -1,14 +1,16 @@
 use Rattle.std.proofs.Common.{◌+◌, ◌*◌}
 use Rattle.ql_forms.specs.View.{form_of, forms_of}
-use Rattle.ql_expand.proofs.Gathering.{Gathered, Bound_so_far}
-use Rattle.ql_expand.specs.Building.{weight, weights}
+use Rattle.ql_expand.specs.Expands.{Binds}
+use Rattle.ql_expand.proofs.Gathering.{with_cores, with_bounds}
+use Rattle.ql_expand.proofs.Loops.{SoFar}
+use Rattle.ql_expand.specs.Building.{EachOf, weight, weights}
 use Rattle.ql_expand.proofs.build.+build.Given as goal
 
 abbrev pub invariant-each-loop-form : goal.invariant-each-loop-form
-invariant-each-loop-form l = Gathered l.dropped l.forms l.form-index l.cores.items
+invariant-each-loop-form l = SoFar (EachOf l.dropped) with_cores l.forms l.form-index l.cores.items
 
 abbrev pub invariant-all_bound-loop-form : goal.invariant-all_bound-loop-form
-invariant-all_bound-loop-form l = Bound_so_far l.forms l.form-index l.bounds.items
+invariant-all_bound-loop-form l = SoFar Binds with_bounds l.forms l.form-index l.bounds.items
 
 abbrev pub decreases-expanded : goal.decreases-expanded
 decreases-expanded l = 8 * weight (form_of l.form.now) + 7
