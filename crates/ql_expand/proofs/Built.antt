@@ -1,15 +1,16 @@
 -- What is built of parts that fit.
-use Rattle.std.proofs.Common.{◌≡◌, ℕ, ◌+◌, ◌≤◌, List, Option, Some, None, refl, sym, ap, subst, ◌∙◌, arith, Result, Ok, Err}
+use Rattle.std.proofs.Common.{◌≡◌, ℕ, ◌+◌, ◌≤◌, List, Option, Some, None, option_map, refl, sym, ap, subst, ◌∙◌, arith, Result, Ok, Err}
 use Rattle.std.specs.Prelude.{IfOk, Bool, true, false, ◌==◌, ◌&&◌}
 use Rattle.std.proofs.lemmas.Bool.Decides.{nat_tests}
 use Rattle.ql_base.specs.Reserved.{number}
 use Rattle.ql_base.specs.declared.reserved.Reserved.TheVariants.{Cond as CondWord}
 use Rattle.ql_expand.specs.declared.assemble.Way.TheVariants as ways
+use Rattle.ql_expand.proofs.Fine.{bind_parts}
 use Rattle.ql_expand.proofs.Making.{word_is, no_clause_made, clause_alone_made, clause_made}
 use Rattle.std.specs.declared.alloc.AllocError.{AllocError}
 use Rattle.ql_forms.specs.Form.{Form, Forms, none, more, atom, list, Tail, proper, dotted, symbol, integer, operation_in, place_of, count}
 use Rattle.ql_expand.specs.Assembly.{nil_core, either, of_each, way_of}
-use Rattle.ql_expand.specs.Building.{Fits, fits_datum, fits_forms, allows, AreFine, ExpandsAs, weight}
+use Rattle.ql_expand.specs.Building.{Fits, fits_datum, fits_forms, allows, IsFine, AreFine, IsFineBind, weight}
 use Rattle.ql_expand.specs.Core as spec
 use Rattle.ql_expand.specs.Core.{binder, named}
 use Rattle.ql_expand.specs.Expands.{applied, one, Expands, Body, forms as turns, InTurn, last_form, then_forms, Bind, with_value, without_value, alone}
@@ -23,6 +24,10 @@ use Rattle.ql_expand.specs.declared.operator.Operator.TheVariants.{Cond, And, Or
 pub on_core : (r : Result Core AllocError) (P Q : spec.Core → Type 0) → ((k : spec.Core) → P k → Q k) → IfOk r (λ k. P (core_of k)) → IfOk r (λ k. Q (core_of k))
 on_core (Ok k) P Q f h = f (core_of k) h
 on_core (Err e) P Q f h = h
+
+pub all_made : (r : Result Core AllocError) {e : spec.Core} (P : spec.Core → Type 0) → IfOk r (λ k. core_of k ≡ e) → P e → IfOk r (λ k. P (core_of k))
+all_made (Ok k) P h x = rw h x
+all_made (Err a) P h x = h
 
 pub when_made : (r : Result Core AllocError) {e : spec.Core} {d : Bool} {f : Form} → IfOk r (λ k. core_of k ≡ e) → Expands d f e → IfOk r (λ k. Expands d f (core_of k))
 when_made (Ok k) h x = rw h x
@@ -49,9 +54,6 @@ operation_shape (list at (more (list p hs u) gs) t) o w fs k = cc
 operation_shape (list at none t) o w fs k = cc
 operation_shape (atom at a) o w fs k = cc
 
-pub form_becomes : (d : Bool) (f g : Form) (k : spec.Core) → f ≡ g → Expands d g k → Expands d f k
-form_becomes d f g k e h = subst (λ (x : Form). Expands d x k) (sym e) h
-
 -- ---- bindings
 
 abbrev BoundBy : Form → Option ((ℕ × ℕ) × Option Form) → Type 0
@@ -72,27 +74,14 @@ bound_by (list at (more (atom o (symbol v)) (more e (more f fs))) (dotted a)) = 
 bound_by (list at (more (atom o (integer z)) fs) t) = tt
 bound_by (list at (more (list o es u) fs) t) = tt
 
-pub bind_alone : (f : Form) (v : ℕ × ℕ) → bind_in f ≡ Some (v, None) → Bind f (binder v.0 (named v.1)) (nil_core v.0)
-bind_alone f v h = subst (BoundBy f) h (bound_by f)
+module _ {A : Type 0} (see : A → Form) (f : Form) {v : ℕ × ℕ} {o : Option A} where
+  pub bind_alone : bind_in f ≡ Some (v, option_map see o) → o ≡ None → Bind f (binder v.0 (named v.1)) (nil_core v.0)
+  bind_alone h e = subst (BoundBy f) (h ∙ ap (λ p. Some (v, option_map see p)) e) (bound_by f)
 
-pub bind_value : (f : Form) (v : ℕ × ℕ) (e : Form) → bind_in f ≡ Some (v, Some e)
-    → (weight e + 1 ≤ weight f) × ((k : spec.Core) → Expands false e k → Bind f (binder v.0 (named v.1)) k)
-bind_value f v e h = subst (BoundBy f) h (bound_by f)
+  pub bind_value : {a : A} → bind_in f ≡ Some (v, option_map see o) → o ≡ Some a
+      → ((weight (see a) + 1 ≤ weight f) × ((k : spec.Core) → Expands false (see a) k → Bind f (binder v.0 (named v.1)) k)) × (IsFineBind f → IsFine (see a))
+  bind_value {a = a} h e =
+      let is : bind_in f ≡ Some (v, Some (see a)) = h ∙ ap (λ p. Some (v, option_map see p)) e in (subst (BoundBy f) is (bound_by f), bind_parts f is)
 
 pub bind_made : (f : Form) (b : spec.Binder × spec.Core) (n : spec.Binder) (k : spec.Core) → b ≡ (n, k) → Bind f n k → Bind f b.0 b.1
 bind_made f b n k e h = rw e h
-
--- ---- bodies and clauses
-
-pub cond_none : {at : ℕ} {fs : Forms} {k : spec.Core} → fs ≡ none → k ≡ nil_core at → ExpandsAs at Cond fs k
-cond_none {at = at} p q d o w h = rw (p, q) (no_clause_made d at o w h)
-
-pub clause_alone : (at : ℕ) (f c : Form) (es rs : Forms) (a rest k : spec.Core) → clause_in f ≡ Some (c, es) → es ≡ none → Expands false c a → ExpandsAs at Cond rs rest
-    → k ≡ either at a rest → ExpandsAs at Cond (more f rs) k
-clause_alone at f c es rs a rest k e p x y q d o w h =
-    rw q (clause_alone_made d at o w h f c rs a rest (e ∙ ap (λ (gs : Forms). Some (c, gs)) p) x (y false at (number CondWord) (word_is CondWord)))
-
-pub clause_body : (at : ℕ) (f c g : Form) (es gs rs : Forms) (a b rest k : spec.Core) → clause_in f ≡ Some (c, es) → es ≡ more g gs → Expands false c a → Body at es b
-    → ExpandsAs at Cond rs rest → k ≡ spec.core at (spec.conditional a b rest) → ExpandsAs at Cond (more f rs) k
-clause_body at f c g es gs rs a b rest k e p x y z q d o w h =
-    rw q (clause_made d at o w h f c g gs rs a b rest (e ∙ ap (λ (is : Forms). Some (c, is)) p) x (subst (λ is. Body at is b) p y) (z false at (number CondWord) (word_is CondWord)))

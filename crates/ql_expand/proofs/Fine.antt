@@ -5,7 +5,7 @@ use Rattle.ql_forms.specs.Form.{Form as Datum, Forms, none, more, atom, list, Ta
 use Rattle.ql_forms.specs.View.{form_of, forms_of}
 use Rattle.ql_forms.specs.declared.form.Form.{Form}
 use Rattle.ql_base.specs.declared.refusal.Fault.{Fault}
-use Rattle.ql_expand.specs.Building.{IsList, IsFine, AreFine, IsFineBind, AreFineBinds, IsFineClause, AreFineClauses, HasParameters, IsFineSplit, Fits, fits_datum, fits_forms, fits_assignment, fits_let, fits_let_star, fits_qlet, fits_lambda, fits_qlambda, fits_clauses, allows}
+use Rattle.ql_expand.specs.Building.{weight, weights, IsList, IsFine, AreFine, IsFineBind, AreFineBinds, IsFineClause, AreFineClauses, HasParameters, IsFineSplit, Fits, fits_datum, fits_forms, fits_assignment, fits_let, fits_let_star, fits_qlet, fits_lambda, fits_qlambda, fits_clauses, allows}
 use Rattle.ql_expand.specs.Core.{Binder}
 use Rattle.ql_expand.specs.ExpandFault.{misshapen as bad_shape, unless_deep, fits, form_faults, forms_faults, bind_faults, binds_faults, clause_faults, clauses_faults, variable_faults, function_faults, parameters_faults, shape_of_parameters}
 use Rattle.ql_expand.specs.Expands.{applied, parameters_in}
@@ -129,25 +129,37 @@ parts_fit at o w fs r s (names, n, h) e k =
 
 -- ---- bindings and clauses
 
-pub fine_value : (f : Datum) (v : ℕ × ℕ) (e : Datum) → IsFineBind f → bind_in f ≡ Some (v, Some e) → IsFine e
-fine_value f v e (names, n, h) k =
+pub bind_parts : (f : Datum) {e : Datum} {v : ℕ × ℕ} → bind_in f ≡ Some (v, Some e) → IsFineBind f → IsFine e
+bind_parts f {e = e} {v = v} k (names, n, h) =
     let b : bound_faults names n (place_of f) (Some (v, Some e)) ≡ [] =
     ap (bound_faults names n (place_of f)) (sym k) ∙ undeep n (place_of f) (bound_faults names n (place_of f) (bind_in f)) (sym (bind_is names n f) ∙ h) in
     (names, n + 1, (neither (variable_faults v.0 v.1) (form_faults names false (n + 1) e) b).1)
 
-pub fine_clause : (f c : Datum) (es : Forms) → IsFineClause f → clause_in f ≡ Some (c, es) → IsFine c × AreFine es
-fine_clause f c es (names, n, h) k =
+pub clause_shape : (f c : Datum) (es : Forms) → clause_in f ≡ Some (c, es) → (p : ℕ) × (f ≡ list p (more c es) proper)
+clause_shape (list p (more b is) proper) c es h =
+    let pair : (b, is) ≡ (c, es) = cc in
+    let first : b ≡ c = ap (λ (q : Datum × Forms). q.0) pair in
+    let second : is ≡ es = ap (λ (q : Datum × Forms). q.1) pair in
+    (p, rw (first, second) refl)
+clause_shape (list p (more b is) (dotted t)) c es h = cc
+clause_shape (list p none t) c es h = cc
+clause_shape (atom p t) c es h = cc
+
+pub clause_parts : (f : Datum) {c : Datum} {es : Forms} → clause_in f ≡ Some (c, es) → IsFineClause f → (weight c + weights es + 2 ≤ weight f) × (IsFine c × AreFine es)
+clause_parts f {c = c} {es = es} k (names, n, h) =
     let b : tested_faults names n (place_of f) (Some (c, es)) ≡ [] =
     ap (tested_faults names n (place_of f)) (sym k) ∙ undeep n (place_of f) (tested_faults names n (place_of f) (clause_in f)) (sym (clause_is names n f) ∙ h) in
-    let both = neither (form_faults names false (n + 1) c) (forms_faults names (n + 1) es) b in ((names, n + 1, both.0), (names, n + 1, both.1))
+    let both = neither (form_faults names false (n + 1) c) (forms_faults names (n + 1) es) b in
+    let size = ap weight (clause_shape f c es k).1 in (omega (arith, size), ((names, n + 1, both.0), (names, n + 1, both.1)))
 
 -- ---- one of some forms
 
 pub fine_first : (f : Datum) (fs : Forms) → AreFine (more f fs) → IsFine f × AreFine fs
 fine_first f fs (names, n, h) = let both = neither (form_faults names false n f) (forms_faults names n fs) h in ((names, n, both.0), (names, n, both.1))
 
-pub fine_first_clause : (f : Datum) (fs : Forms) → AreFineClauses (more f fs) → IsFineClause f × AreFineClauses fs
-fine_first_clause f fs (names, n, h) = let both = neither (clause_faults names n f) (clauses_faults names n fs) h in ((names, n, both.0), (names, n, both.1))
+pub clauses_parts : {f : Datum} {fs gs : Forms} → gs ≡ more f fs → AreFineClauses gs → (weights gs ≡ weight f + 1 + weights fs) × (IsFineClause f × AreFineClauses fs)
+clauses_parts {f = f} {fs = fs} e (names, n, h) =
+    let both = neither (clause_faults names n f) (clauses_faults names n fs) (ap (clauses_faults names n) (sym e) ∙ h) in (ap weights e, ((names, n, both.0), (names, n, both.1)))
 
 -- Where a fact of some forms is one of the first and one of the others, it is one of each.
 pub at_place : (P : Forms → Type 0) (Q : Datum → Type 0) → ((f : Datum) (fs : Forms) → P (more f fs) → Q f × P fs)

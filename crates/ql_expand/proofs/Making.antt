@@ -8,13 +8,14 @@ use Rattle.ql_base.specs.declared.reserved.Reserved.{Reserved}
 use Rattle.ql_base.specs.declared.reserved.Reserved.TheVariants.{Null, Greater, Less, Cons, Nil, True, If as IfWord, And as AndWord, Or as OrWord, Progn as PrognWord, Cond as CondWord, Let as LetWord, LetStar as LetStarWord, List as ListWord}
 use Rattle.ql_forms.specs.Form.{Form, Forms, none, more, atom, list, proper, dotted, symbol, integer, Atom, items_of, place_of, count, is_nil}
 use Rattle.ql_expand.specs.Assembly.{atom_core, nil_core, number_core, with_two, either, linked, chain, all_linked, folded, operands, nested, let_core, before_body, of_each, way_of}
-use Rattle.ql_expand.specs.Building.{Fits, fits_datum, fits_forms, fits_assignment, fits_let, fits_let_star, fits_qlet, fits_lambda, fits_qlambda, fits_clauses, allows, passes, ExpandsAs, EachOf, none_of, one_of}
+use Rattle.ql_expand.specs.Building.{Fits, fits_datum, fits_forms, fits_assignment, fits_let, fits_let_star, fits_qlet, fits_lambda, fits_qlambda, fits_clauses, allows, passes, Clauses, EachOf, none_of, one_of}
 use Rattle.ql_expand.specs.Core.{named, Binder, Core, core, Cores, no_cores, and_core, Bounds, no_bounds, and_bound, constant, setq, conditional, progn, binding, variable, print, funcall, throw, protect, lambda, qlet, qlambda}
 use Rattle.ql_expand.specs.ExpandFault.{fits}
 use Rattle.ql_expand.specs.Expands.{applied, added, nil_at, one, two, parameters_in, no_terms, no_factors, one_term, one_factor, negative, more_operands, not_null, at_most, at_least, list_none, list_more, and_none, and_one, and_more, or_none, or_one, when, unless, cond_none, cond_test, cond_forms, let_star_none, let_star_one, let_star_more, Expands, sugar, or_more, integer_alone, constant_word, quoted, variable_word, assigned, if_then, if_else, sequence, bound, one_operand, two_operands, printed, called, value_called, closed, bound_apart, closed_apart, caught, caught_all, thrown, protected, Body, no_forms, one_form, forms, InTurn, Each, none_left, one_more, Bind, Binds, none_bound, one_bound}
 use Rattle.ql_expand.specs.Operator.{operator_of, reserved_operator, reading_of, takes_two, is_arithmetic, is_constant}
 use Rattle.ql_expand.specs.Parts as parts
 use Rattle.ql_expand.specs.Parts.{clause_in}
+use Rattle.ql_expand.proofs.Fine.{clause_shape}
 use Rattle.ql_expand.specs.declared.assemble.Way.TheVariants as ways
 use Rattle.ql_expand.specs.declared.operator.Operator.{Operator}
 use Rattle.ql_expand.specs.declared.operator.Operator.TheVariants.{Constant, Quote, Setq, If, Progn, Let, Catch, Qcatch, Throw, Protect, Funcall, Print, Unary, Binary, Sum, Difference, Product, Not, AtMost, AtLeast, Cond, And, Or, When, Unless, LetStar, List as ListOf, Call}
@@ -203,27 +204,21 @@ module _ {d : Bool} {at o w : ℕ} where
 
 -- ---- clauses
 
-clause_shape : (f c : Form) (es : Forms) → clause_in f ≡ Some (c, es) → (p : ℕ) × (f ≡ list p (more c es) proper)
-clause_shape (list p (more b is) proper) c es h =
-    let pair : (b, is) ≡ (c, es) = cc in
-    let first : b ≡ c = ap (λ (q : Form × Forms). q.0) pair in
-    let second : is ≡ es = ap (λ (q : Form × Forms). q.1) pair in
-    (p, rw (first, second) refl)
-clause_shape (list p (more b is) (dotted t)) c es h = cc
-clause_shape (list p none t) c es h = cc
-clause_shape (atom p t) c es h = cc
+pub no_clause_made : {at : ℕ} {fs : Forms} → fs ≡ none → Clauses at fs (nil_core at)
+no_clause_made {at = at} s d o w e = rw s (sugar (cond_none e) (nil_made at))
 
-pub clause_alone_made : (d : Bool) (at o w : ℕ) → operator_of w ≡ Cond → (f c : Form) (rs : Forms) (a rest : Core) → clause_in f ≡ Some (c, none) → Expands false c a
-    → Expands false (added at (number CondWord) rs) rest → Expands d (applied at o w (more f rs)) (either at a rest)
-clause_alone_made d at o w e f c rs a rest h x y = let s = clause_shape f c none h in rw s.1 (sugar (cond_test e) (or_more (word_is OrWord) x (sugar (or_one (word_is OrWord)) y)))
+module _ {at : ℕ} {f c : Form} {es rs : Forms} {a rest : Core} where
+  pub clause_alone_made : clause_in f ≡ Some (c, es) → es ≡ none → Expands false c a → Clauses at rs rest → Clauses at (more f rs) (either at a rest)
+  clause_alone_made h s x y d o w e =
+      let shape = clause_shape f c none (h ∙ ap (λ (is : Forms). Some (c, is)) s) in
+      rw shape.1 (sugar (cond_test e) (or_more (word_is OrWord) x (sugar (or_one (word_is OrWord)) (y false at (number CondWord) (word_is CondWord)))))
 
-pub clause_made : (d : Bool) (at o w : ℕ) → operator_of w ≡ Cond → (f c g : Form) (es rs : Forms) (a b rest : Core) → clause_in f ≡ Some (c, more g es) → Expands false c a → Body at (more g es) b
-    → Expands false (added at (number CondWord) rs) rest → Expands d (applied at o w (more f rs)) (core at (conditional a b rest))
-clause_made d at o w e f c g es rs a b rest h x y z =
-    let s = clause_shape f c (more g es) h in rw s.1 (sugar (cond_forms e) (if_else (word_is IfWord) x (sequence (word_is PrognWord) y) z))
-
-pub no_clause_made : (d : Bool) (at o w : ℕ) → operator_of w ≡ Cond → Expands d (applied at o w none) (nil_core at)
-no_clause_made d at o w e = sugar (cond_none e) (nil_made at)
+  pub clause_made : {g : Form} {gs : Forms} {b : Core} → clause_in f ≡ Some (c, es) → es ≡ more g gs → Expands false c a → Body at es b → Clauses at rs rest
+      → Clauses at (more f rs) (core at (conditional a b rest))
+  clause_made {g = g} {gs = gs} {b = b} h s x y z d o w e =
+      let shape = clause_shape f c (more g gs) (h ∙ ap (λ (is : Forms). Some (c, is)) s) in
+      let body = subst (λ (is : Forms). Body at is b) s y in
+      rw shape.1 (sugar (cond_forms e) (if_else (word_is IfWord) x (sequence (word_is PrognWord) body) (z false at (number CondWord) (word_is CondWord))))
 
 -- ---- bindings
 
@@ -276,5 +271,5 @@ module _ {d : Bool} {at o w : ℕ} where
   pub quote_made : {r : Operator} {fs : Forms} {f : Form} → Fits r fs (parts.datum f) → operator_of w ≡ r → Expands d (applied at o w fs) (core at (constant f))
   quote_made fits_datum e = quoted e
 
-  pub cond_made : {r : Operator} {fs cs : Forms} {k : Core} → Fits r fs (parts.clauses cs) → operator_of w ≡ r → ExpandsAs at Cond cs k → Expands d (applied at o w fs) k
+  pub cond_made : {r : Operator} {fs cs : Forms} {k : Core} → Fits r fs (parts.clauses cs) → operator_of w ≡ r → Clauses at cs k → Expands d (applied at o w fs) k
   cond_made fits_clauses e x = x d o w e

@@ -30,16 +30,6 @@ fits_weight fits_lambda = omega arith
 fits_weight fits_qlambda = omega arith
 fits_weight fits_clauses = omega arith
 
-pub clause_weight : (f c : Datum) (es : Forms) → clause_in f ≡ Some (c, es) → weight c + weights es + 2 ≤ weight f
-clause_weight (list at (more b is) proper) c es e =
-    let pair : (b, is) ≡ (c, es) = cc in
-    let first : b ≡ c = ap (λ (q : Datum × Forms). q.0) pair in
-    let second : is ≡ es = ap (λ (q : Datum × Forms). q.1) pair in
-    rw (← first, ← second) (omega arith)
-clause_weight (list at (more b is) (dotted a)) c es e = cc
-clause_weight (list at none t) c es e = cc
-clause_weight (atom at a) c es e = cc
-
 -- the weight of the one at a place
 pub weight_at : (xs : List Form) (i : ℕ) (x : Form) → i < length xs → x ≡ get_or xs i x → weight (form_of x) + 1 ≤ weights (forms_of xs)
 weight_at [] i x h e = absurd (omega arith)

@@ -71,9 +71,9 @@ pub data Fits : Operator → Forms → Split → Type 0 where
   fits_qlambda : {f ps : Form} {es : Forms} → Fits Qlambda (more f (more ps es)) (form_and_parameters f ps es)
   fits_clauses : {cs : Forms} → Fits Cond cs (clauses cs)
 
--- Each list at this offset, with this operator and these parts, expands to this core.
-abbrev pub ExpandsAs : ℕ → Operator → Forms → Core → Type 0
-ExpandsAs at r fs c = (d : Bool) (o w : ℕ) → operator_of w ≡ r → Expands d (applied at o w fs) c
+-- Each `cond` at this offset with these clauses expands to this core.
+abbrev pub Clauses : ℕ → Forms → Core → Type 0
+Clauses at fs c = (d : Bool) (o w : ℕ) → operator_of w ≡ Cond → Expands d (applied at o w fs) c
 
 -- forms whose values are all dropped, or all used
 pub data EachOf : (dropped : Bool) → Forms → Cores → Type 0 where

@@ -3,7 +3,7 @@
 ghost use Rattle.std.specs.Prelude.{◌≡◌, ◌≤◌, ◌+◌, ◌++◌, ◌∷◌, [], IfOk, MatchOption, Some, false, length, true};
 ghost use Rattle.ql_forms.specs.Form.{Forms as Data, atom, more, none, count, place_of};
 ghost use Rattle.ql_forms.specs.View.{atom_of, form_of, forms_of};
-ghost use Rattle.ql_expand.specs.Building.{IsList, IsFine, AreFine, IsFineBind, AreFineBinds, IsFineClause, AreFineClauses, HasParameters, HasBinders, IsFineSplit, Fits, allows, passes, ExpandsAs, EachOf, weight, weights, split_weight};
+ghost use Rattle.ql_expand.specs.Building.{IsList, IsFine, AreFine, IsFineBind, AreFineBinds, IsFineClause, AreFineClauses, HasParameters, HasBinders, IsFineSplit, Fits, allows, passes, Clauses, EachOf, weight, weights, split_weight};
 ghost use Rattle.ql_expand.specs.Core.{binder, named};
 ghost use Rattle.ql_expand.specs.Expands.{applied, parameters_in, binders_in, Expands, Body, Bind, Binds};
 ghost use Rattle.ql_expand.specs.Operator.{operator_of, reading_of};
@@ -172,22 +172,19 @@ fn bind<'a>(alloc: Global, form: &'a Form) -> Result<Bound<'a>, AllocError>
     requires { IsFineBind (form_of form.now) }
     ensures { IfOk result (λ b. Bind (form_of form.now) (bound_of b).0 (bound_of b).1) }
 {
-    match bind_of(form) {
-        None => unreachable!(),
-        Some(found) => match found.value {
-            None => Ok(bound_to(
-                found.variable,
-                Maker {
-                    alloc,
-                    at: found.variable.at,
-                }
-                .nil(),
-            )),
-            Some(value) => {
-                let value = expanded(alloc, false, value)?;
-                Ok(bound_to(found.variable, value))
-            }
-        },
+    let Some(found) = bind_of(form) else {
+        unreachable!()
+    };
+    let variable = found.variable;
+    match found.value {
+        None => {
+            let at = variable.at;
+            Ok(bound_to(variable, Maker { alloc, at }.nil()))
+        }
+        Some(value) => {
+            let value = expanded(alloc, false, value)?;
+            Ok(bound_to(variable, value))
+        }
     }
 }
 
@@ -205,7 +202,7 @@ fn bound_to<'a>(variable: Symbol, value: Core<'a>) -> Bound<'a>
 #[cycle(build)]
 fn cond<'a>(make: Maker, clauses: &'a [Form]) -> Result<Child<'a>, AllocError>
     requires { AreFineClauses (forms_of clauses.now) }
-    ensures { IfOk result (λ c. ExpandsAs make.at.0 Operator.Cond (forms_of clauses.now) (core_of c)) }
+    ensures { IfOk result (λ c. Clauses make.at.0 (forms_of clauses.now) (core_of c)) }
 {
     match first_of(clauses) {
         None => make.boxed_nil(),
@@ -221,8 +218,8 @@ fn cond<'a>(make: Maker, clauses: &'a [Form]) -> Result<Child<'a>, AllocError>
 #[cycle(build)]
 fn clause<'a>(make: Maker, form: &'a Form, rest: Child<'a>) -> Made<'a>
     requires { IsFineClause (form_of form.now) }
-    ensures { (others : Data) → ExpandsAs make.at.0 Operator.Cond others (core_of rest.entry)
-        → IfOk result (λ c. ExpandsAs make.at.0 Operator.Cond (more (form_of form.now) others) (core_of c)) }
+    ensures { (others : Data) → Clauses make.at.0 others (core_of rest.entry)
+        → IfOk result (λ c. Clauses make.at.0 (more (form_of form.now) others) (core_of c)) }
 {
     match clause_of(form) {
         None => unreachable!(),

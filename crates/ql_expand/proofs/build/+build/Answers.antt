@@ -1,21 +1,22 @@
 -- That the core of forms is what they expand to.
-use Rattle.std.proofs.Common.{◌≡◌, ◌+◌, ◌≤◌, ℕ, arith, sym, ap, subst, ◌∙◌, option_map, Some, None, refl, length-append}
+use Rattle.std.proofs.Common.{Bor, ◌≡◌, ◌+◌, ◌≤◌, ℕ, arith, sym, ap, subst, ◌∙◌, option_map, Some, None, refl, length-append}
 use Rattle.std.specs.Prelude.{Bool, true, false}
 use Rattle.ql_forms.specs.Form.{more}
 use Rattle.ql_forms.specs.View.{form_of, forms_of}
-use Rattle.ql_expand.specs.Building.{ExpandsAs, EachOf, none_of, one_of, weight, weights, IsFine, AreFine, IsFineBind, AreFineBinds, AreFineClauses}
+use Rattle.ql_forms.specs.declared.form.Form.{Form}
+use Rattle.ql_expand.specs.Building.{Clauses, EachOf, none_of, one_of, weight, weights, IsFine, AreFine, IsFineBind, AreFineBinds, AreFineClauses}
 use Rattle.ql_expand.specs.Core.{binder, named, no_cores, no_bounds}
 use Rattle.ql_expand.specs.Expands.{applied, Expands, Body, Binds, none_bound, one_bound}
 use Rattle.ql_expand.specs.View.{core_of, cores_of, bound_of, bounds_of}
 use Rattle.ql_expand.proofs.Counts.{as_many}
 use Rattle.ql_expand.specs.Assembly.{nil_core, either}
 use Rattle.ql_expand.specs.declared.operator.Operator.TheVariants.{Cond}
-use Rattle.ql_expand.proofs.Built.{bind_made, cond_none, clause_alone, clause_body, on_core, when_made, forms_fit, no_definition, operation_shape, form_becomes, bind_alone, bind_value}
-use Rattle.ql_expand.proofs.Fine.{fine_value, fine_clause, fine_first, fine_first_bind, fine_first_clause, at_place}
+use Rattle.ql_expand.proofs.Built.{all_made, on_core, when_made, forms_fit, no_definition, operation_shape, bind_alone, bind_value}
+use Rattle.ql_expand.proofs.Fine.{clause_parts, clauses_parts, fine_first, fine_first_bind, at_place}
 use Rattle.ql_expand.proofs.Gathering.{with_cores, then_core, cores_last, cores_alone, with_bounds, then_bound, bounds_last, bounds_alone, body_none, body_alone, body_turns}
 use Rattle.ql_expand.proofs.Loops.{so_far_more, so_far_all}
-use Rattle.ql_expand.proofs.Making.{atom_seen, each_made, sequence_made, printed_made, tested_made, applied_made, before_made, quote_made, let_made, qlet_made, lambda_made, qlambda_made, setq_made, cond_made}
-use Rattle.ql_expand.proofs.Weights.{clause_weight, weight_at, ends}
+use Rattle.ql_expand.proofs.Making.{atom_seen, each_made, sequence_made, printed_made, tested_made, applied_made, before_made, quote_made, let_made, qlet_made, lambda_made, qlambda_made, setq_made, cond_made, no_clause_made, clause_alone_made, clause_made}
+use Rattle.ql_expand.proofs.Weights.{weight_at, ends}
 use Rattle.ql_expand.proofs.build.+build.Goals as goal
 
 -- ---- loops
@@ -76,84 +77,45 @@ expanded-applied-requires t c =
 
 pub bind-expanded-requires : goal.bind-expanded-requires
 bind-expanded-requires t c =
-    let f = form_of c.args.form.now in
-    let v : ℕ × ℕ = (c.in-Some.found.variable.at.0, c.in-Some.found.variable.number) in
-    let e = form_of c.in-Some-value.value.now in
-    let h = c.in-Some.ensures ∙ ap (λ o. Some (v, option_map (λ x. form_of x.now) o)) c.in-Some-value.is in
-    (omega (arith, (bind_value f v e h).0), fine_value f v e c.requires h)
+    let found = bind_value (λ (e : Bor Form). form_of e.now) (form_of c.args.form.now) c.in-Some.ensures c.in-Some-value.is in (omega (arith, found.0.0), found.1 c.requires)
 
-pub bind-returns-in-None-value : goal.bind-returns-in-None-value
-bind-returns-in-None-value t c =
-    let f = form_of c.args.form.now in
-    let v : ℕ × ℕ = (c.in-Some.found.variable.at.0, c.in-Some.found.variable.number) in
-    let h = c.in-Some.ensures ∙ ap (λ o. Some (v, option_map (λ x. form_of x.now) o)) c.in-None-value.is in
-    let n = binder v.0 (named v.1) in
-    bind_made f (bound_of c.bound_to.result) n (nil_core v.0) (c.bound_to.ensures ∙ ap (λ k. (n, k)) c.nil.ensures) (bind_alone f v h)
+pub bind-returns-in-None : goal.bind-returns-in-None
+bind-returns-in-None t c =
+    rw (c.bound_to.ensures, c.nil.ensures) (bind_alone (λ (e : Bor Form). form_of e.now) (form_of c.args.form.now) c.in-Some.ensures c.in-None.is)
 
 pub bind-returns-in_ok-value-in-Some-value : goal.bind-returns-in_ok-value-in-Some-value
 bind-returns-in_ok-value-in-Some-value t c =
-    let f = form_of c.args.form.now in
-    let v : ℕ × ℕ = (c.in-Some.found.variable.at.0, c.in-Some.found.variable.number) in
-    let e = form_of c.in-Some-value.value.now in
-    let h = c.in-Some.ensures ∙ ap (λ o. Some (v, option_map (λ x. form_of x.now) o)) c.in-Some-value.is in
-    let k = core_of c.in_ok-value-in-Some-value.value in
-    bind_made f (bound_of c.bound_to-in-Some-value.result) (binder v.0 (named v.1)) k c.bound_to-in-Some-value.ensures
-    ((bind_value f v e h).1 k c.in_ok-value-in-Some-value.ensures)
+    let found = bind_value (λ (e : Bor Form). form_of e.now) (form_of c.args.form.now) c.in-Some.ensures c.in-Some-value.is in
+    rw c.bound_to-in-Some-value.ensures (found.0.1 _ c.in_ok-value-in-Some-value.ensures)
 
 pub cond-cond-requires : goal.cond-cond-requires
-cond-cond-requires t c =
-    let f = form_of c.in-Some.form.now in
-    let fs = forms_of c.in-Some.others.now in
-    let size = ap weights c.in-Some.ensures in
-    (omega (arith, size), (fine_first_clause f fs (subst AreFineClauses c.in-Some.ensures c.requires)).1)
+cond-cond-requires t c = let parts = clauses_parts c.in-Some.ensures c.requires in (omega (arith, parts.0), parts.1.1)
 
 pub cond-clause-requires : goal.cond-clause-requires
-cond-clause-requires t c =
-    let f = form_of c.in-Some.form.now in
-    let fs = forms_of c.in-Some.others.now in
-    let size = ap weights c.in-Some.ensures in
-    (omega (arith, size), (fine_first_clause f fs (subst AreFineClauses c.in-Some.ensures c.requires)).0)
+cond-clause-requires t c = let parts = clauses_parts c.in-Some.ensures c.requires in (omega (arith, parts.0), parts.1.0)
 
 pub cond-returns-in-None : goal.cond-returns-in-None
 cond-returns-in-None t c =
-    on_core c.boxed_nil.result (λ k. k ≡ nil_core c.args.make.at.0) (ExpandsAs c.args.make.at.0 Cond (forms_of c.args.clauses.now)) (λ k e. cond_none c.in-None.ensures e) c.boxed_nil.ensures
+    all_made c.boxed_nil.result (Clauses c.args.make.at.0 (forms_of c.args.clauses.now)) c.boxed_nil.ensures (no_clause_made c.in-None.ensures)
 
 pub clause-expanded-requires : goal.clause-expanded-requires
-clause-expanded-requires t c =
-    let f = form_of c.args.form.now in
-    let e = form_of c.in-Some.test.now in
-    let es = forms_of c.in-Some.forms.now in
-    (omega (arith, clause_weight f e es c.in-Some.ensures), (fine_clause f e es c.requires c.in-Some.ensures).0)
+clause-expanded-requires t c = let parts = clause_parts _ c.in-Some.ensures c.requires in (omega (arith, parts.0), parts.1.0)
 
 pub clause-boxed-requires : goal.clause-boxed-requires
-clause-boxed-requires t c =
-    let f = form_of c.args.form.now in
-    let e = form_of c.in-Some.test.now in
-    let es = forms_of c.in-Some.forms.now in
-    (omega (arith, clause_weight f e es c.in-Some.ensures), (fine_clause f e es c.requires c.in-Some.ensures).0)
+clause-boxed-requires t c = let parts = clause_parts _ c.in-Some.ensures c.requires in (omega (arith, parts.0), parts.1.0)
 
 pub clause-boxed_body-requires : goal.clause-boxed_body-requires
-clause-boxed_body-requires t c =
-    let f = form_of c.args.form.now in
-    let e = form_of c.in-Some.test.now in
-    let es = forms_of c.in-Some.forms.now in
-    (omega (arith, clause_weight f e es c.in-Some.ensures), (fine_clause f e es c.requires c.in-Some.ensures).1)
+clause-boxed_body-requires t c = let parts = clause_parts _ c.in-Some.ensures c.requires in (omega (arith, parts.0), parts.1.1)
 
 pub clause-returns-in_ok-test-in-None-first_of : goal.clause-returns-in_ok-test-in-None-first_of
 clause-returns-in_ok-test-in-None-first_of t c others h =
-    let at = c.args.make.at.0 in
-    let f = form_of c.args.form.now in
-    let a = core_of c.in_ok-test-in-None-first_of.test in
-    let rest = core_of c.args.rest in
-    on_core c.either.result (λ k. k ≡ either at a rest) (ExpandsAs at Cond (more f others))
-    (λ k e. clause_alone at f (form_of c.in-Some.test.now) (forms_of c.in-Some.forms.now) others a rest k c.in-Some.ensures c.in-None-first_of.ensures c.in_ok-test-in-None-first_of.ensures h e)
-    c.either.ensures
+    all_made c.either.result (Clauses c.args.make.at.0 (more (form_of c.args.form.now) others)) c.either.ensures
+    (clause_alone_made c.in-Some.ensures c.in-None-first_of.ensures c.in_ok-test-in-None-first_of.ensures h)
 
 pub clause-returns-in_ok-body-in-Some-first_of : goal.clause-returns-in_ok-body-in-Some-first_of
 clause-returns-in_ok-body-in-Some-first_of t c others h =
-    clause_body c.args.make.at.0 (form_of c.args.form.now) (form_of c.in-Some.test.now) _ (forms_of c.in-Some.forms.now) _ others (core_of c.in_ok-test-in-Some-first_of.test)
-    (core_of c.in_ok-body-in-Some-first_of.body) (core_of c.args.rest) (core_of c.conditional.result) c.in-Some.ensures c.in-Some-first_of.ensures
-    c.in_ok-test-in-Some-first_of.ensures c.in_ok-body-in-Some-first_of.ensures h c.conditional.ensures
+    rw c.conditional.ensures
+    (clause_made c.in-Some.ensures c.in-Some-first_of.ensures c.in_ok-test-in-Some-first_of.ensures c.in_ok-body-in-Some-first_of.ensures h)
 
 -- ---- as many forms as are wanted
 
