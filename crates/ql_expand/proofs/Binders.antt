@@ -29,8 +29,7 @@ binders_last (c ∷ bs) b cs = ap (then_binder c) (binders_last bs b cs)
 pub symbol_named : (f : Datum) (at n : ℕ) (fs : Forms) (bs : List Binder) → symbol_in f ≡ Some (at, n) → Named fs bs → Named (more f fs) (binder at (named n) ∷ bs)
 symbol_named (atom p (symbol v)) at n fs bs e h =
     let pair : (p, v) ≡ (at, n) = cc in rw h (ap (λ (q : ℕ × ℕ). Some (binder q.0 (named q.1) ∷ bs)) pair)
-symbol_named (atom p (integer z)) at n fs bs e h = cc
-symbol_named (list p gs t) at n fs bs e h = cc
+symbol_named f at n fs bs e h = cc
 
 others : (o : Option (List Binder)) (at v : ℕ) (bs : List Binder) → with_binder at v o ≡ Some bs → (cs : List Binder) × (o ≡ Some cs)
 others None at v bs e = absurd (cc)
@@ -38,5 +37,4 @@ others (Some cs) at v bs e = (cs, refl)
 
 pub first_named : (f : Datum) (fs : Forms) → HasBinders (more f fs) → (symbol_in f ≡ None → ⊥) × HasBinders fs
 first_named (atom at (symbol v)) fs (bs, h) = (λ e. cc, others (binders_in fs) at v bs h)
-first_named (atom at (integer z)) fs (bs, h) = absurd (cc)
-first_named (list at gs t) fs (bs, h) = absurd (cc)
+first_named f fs (bs, h) = absurd (cc)

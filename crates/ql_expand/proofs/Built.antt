@@ -48,11 +48,7 @@ operation_shape (list at (more (atom p (symbol v)) gs) proper) o w fs k =
     let place : p ≡ o = ap (λ (q : ℕ × ℕ). q.0) head in
     let word : v ≡ w = ap (λ (q : ℕ × ℕ). q.1) head in
     rw (place, word, rest) refl
-operation_shape (list at (more (atom p (symbol v)) gs) (dotted a)) o w fs k = cc
-operation_shape (list at (more (atom p (integer z)) gs) t) o w fs k = cc
-operation_shape (list at (more (list p hs u) gs) t) o w fs k = cc
-operation_shape (list at none t) o w fs k = cc
-operation_shape (atom at a) o w fs k = cc
+operation_shape f o w fs k = cc
 
 -- ---- bindings
 
@@ -63,16 +59,11 @@ BoundBy f (Some (v, Some e)) = (weight e + 1 ≤ weight f) × ((k : spec.Core) �
 
 bound_by : (f : Form) → BoundBy f (bind_in f)
 bound_by (atom at (symbol v)) = alone
-bound_by (atom at (integer z)) = tt
 bound_by (list at (more (atom o (symbol v)) none) proper) = without_value
 bound_by (list at (more (atom o (symbol v)) (more e none)) proper) = (omega arith, λ k x. with_value x)
 bound_by (list at (more (atom o (symbol v)) (more e (more f fs))) proper) = tt
-bound_by (list at none t) = tt
-bound_by (list at (more (atom o (symbol v)) none) (dotted a)) = tt
-bound_by (list at (more (atom o (symbol v)) (more e none)) (dotted a)) = tt
 bound_by (list at (more (atom o (symbol v)) (more e (more f fs))) (dotted a)) = tt
-bound_by (list at (more (atom o (integer z)) fs) t) = tt
-bound_by (list at (more (list o es u) fs) t) = tt
+bound_by f = tt
 
 module _ {A : Type 0} (see : A → Form) (f : Form) {v : ℕ × ℕ} {o : Option A} where
   pub bind_alone : bind_in f ≡ Some (v, option_map see o) → o ≡ None → Bind f (binder v.0 (named v.1)) (nil_core v.0)

@@ -59,17 +59,12 @@ fine_split names n at (clauses cs) e = (names, n, e)
 -- ---- the parts fit
 
 datum_fits : (fs : Forms) → IsFineSplit (datum_by fs) → Fits Quote fs (datum_by fs)
-datum_fits none h = absurd h
 datum_fits (more f none) h = fits_datum
-datum_fits (more f (more g fs)) h = absurd h
+datum_fits fs h = absurd h
 
 assignment_fits : (fs : Forms) → IsFineSplit (assignment_by fs) → Fits Setq fs (assignment_by fs)
-assignment_fits none h = absurd h
-assignment_fits (more (atom o (symbol v)) none) h = absurd h
 assignment_fits (more (atom o (symbol v)) (more e none)) h = fits_assignment
-assignment_fits (more (atom o (symbol v)) (more e (more f fs))) h = absurd h
-assignment_fits (more (atom o (integer z)) fs) h = absurd h
-assignment_fits (more (list o es t) fs) h = absurd h
+assignment_fits fs h = absurd h
 
 let_fits : (r : Operator) → ((b : Datum) (bs es : Forms) → items_of b ≡ Some bs → Fits r (more b es) (bindings bs es))
     → (fs : Forms) → IsFineSplit (bindings_by fs) → Fits r fs (bindings_by fs)
@@ -94,9 +89,8 @@ lambda_fits none h = absurd h
 lambda_fits (more ps es) h = fits_lambda
 
 qlambda_fits : (fs : Forms) → IsFineSplit (form_and_parameters_by fs) → Fits Qlambda fs (form_and_parameters_by fs)
-qlambda_fits none h = absurd h
-qlambda_fits (more f none) h = absurd h
 qlambda_fits (more f (more ps es)) h = fits_qlambda
+qlambda_fits fs h = absurd h
 
 forms_fit : (r : Operator) (fs : Forms) (b : Bool) → allows (reading_of r) (count fs) ≡ b
     → IsFineSplit (if b then forms fs else misshapen) → Fits r fs (if b then forms fs else misshapen)
@@ -141,9 +135,7 @@ clause_shape (list p (more b is) proper) c es h =
     let first : b ≡ c = ap (λ (q : Datum × Forms). q.0) pair in
     let second : is ≡ es = ap (λ (q : Datum × Forms). q.1) pair in
     (p, rw (first, second) refl)
-clause_shape (list p (more b is) (dotted t)) c es h = cc
-clause_shape (list p none t) c es h = cc
-clause_shape (atom p t) c es h = cc
+clause_shape f c es h = cc
 
 pub clause_parts : (f : Datum) {c : Datum} {es : Forms} → clause_in f ≡ Some (c, es) → IsFineClause f → (weight c + weights es + 2 ≤ weight f) × (IsFine c × AreFine es)
 clause_parts f {c = c} {es = es} k (names, n, h) =

@@ -56,19 +56,14 @@ made_all all i t made le =
 
 -- what reads as a definition is one
 pub definition_is : (fs : Forms) (o v : ℕ) (ps : Datum) (es : Forms) → definition o v ps es ≡ definition_by fs → fs ≡ more (atom o (symbol v)) (more ps es)
-definition_is none o v ps es e = cc
-definition_is (more f none) o v ps es e = cc
 definition_is (more (atom p (symbol w)) (more qs gs)) o v ps es e = cc
 definition_is (more (atom p (integer z)) (more qs gs)) o v ps es e = cc
 definition_is (more (list p hs t) (more qs gs)) o v ps es e = cc
+definition_is fs o v ps es e = cc
 
 pub assignment_is : (fs : Forms) (o v : ℕ) (f : Datum) → assignment o v f ≡ assignment_by fs → fs ≡ more (atom o (symbol v)) (more f none)
-assignment_is none o v f e = cc
-assignment_is (more (atom p (symbol w)) none) o v f e = cc
 assignment_is (more (atom p (symbol w)) (more g none)) o v f e = cc
-assignment_is (more (atom p (symbol w)) (more g (more h hs))) o v f e = cc
-assignment_is (more (atom p (integer z)) fs) o v f e = cc
-assignment_is (more (list p hs t) fs) o v f e = cc
+assignment_is fs o v f e = cc
 
 -- the parts of a top form without a fault
 pub fine_parts : (f : Datum) (o : (ℕ × ℕ) × Forms) → IsFineTop f → operation_in f ≡ Some o → IsFineSplit (parts_by (reading_of (operator_of o.0.1)) o.1)
