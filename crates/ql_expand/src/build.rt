@@ -21,6 +21,7 @@ use std::alloc::{AllocError, Global};
 
 /// The core of a form.
 #[cycle(build)]
+#[tactic(auto, using(crate::proofs::Making::atom_seen))]
 pub fn expanded<'a>(alloc: Global, dropped: bool, form: &'a Form) -> Made<'a>
     requires { IsFine (form_of form.now) }
     ensures { IfOk result (λ c. Expands dropped (form_of form.now) (core_of c)) }
@@ -68,6 +69,7 @@ fn fitting<'a>(at: Offset, head: Symbol, parts: &'a [Form]) -> Parts<'a>
 
 // A list with this operator.
 #[cycle(build)]
+#[tactic(auto, using(crate::proofs::Making::quote_made, crate::proofs::Making::let_made, crate::proofs::Making::qlet_made, crate::proofs::Making::lambda_made, crate::proofs::Making::qlambda_made, crate::proofs::Making::setq_made, crate::proofs::Making::cond_made, crate::proofs::Built::no_definition))]
 fn applied<'a>(make: Maker, dropped: bool, head: Symbol, parts: &'a [Form]) -> Made<'a>
     requires { IsFine (applied make.at.0 head.at.0 head.number (forms_of parts.now)) }
     ensures { IfOk result (λ c. Expands dropped (applied make.at.0 head.at.0 head.number (forms_of parts.now)) (core_of c)) }
@@ -112,6 +114,7 @@ fn applied<'a>(make: Maker, dropped: bool, head: Symbol, parts: &'a [Form]) -> M
 
 // The body of a form.
 #[cycle(build)]
+#[tactic(auto, using(crate::proofs::Gathering::body_none, crate::proofs::Gathering::body_alone, crate::proofs::Gathering::body_turns))]
 pub fn body<'a>(make: Maker, forms: &'a [Form]) -> Made<'a>
     requires { AreFine (forms_of forms.now) }
     ensures { IfOk result (λ c. Body make.at.0 (forms_of forms.now) (core_of c)) }
@@ -200,6 +203,7 @@ fn bound_to<'a>(variable: Symbol, value: Core<'a>) -> Bound<'a>
 
 // Clauses.
 #[cycle(build)]
+#[tactic(auto, using(crate::proofs::Fine::clauses_parts, crate::proofs::Making::no_clause_made))]
 fn cond<'a>(make: Maker, clauses: &'a [Form]) -> Result<Child<'a>, AllocError>
     requires { AreFineClauses (forms_of clauses.now) }
     ensures { IfOk result (λ c. Clauses make.at.0 (forms_of clauses.now) (core_of c)) }
@@ -216,6 +220,7 @@ fn cond<'a>(make: Maker, clauses: &'a [Form]) -> Result<Child<'a>, AllocError>
 
 // A clause, and what is built of those after it.
 #[cycle(build)]
+#[tactic(auto, using(crate::proofs::Fine::clause_parts, crate::proofs::Making::clause_alone_made))]
 fn clause<'a>(make: Maker, form: &'a Form, rest: Child<'a>) -> Made<'a>
     requires { IsFineClause (form_of form.now) }
     ensures { (others : Data) → Clauses make.at.0 others (core_of rest.entry)
@@ -265,6 +270,7 @@ fn split_first(forms: &[Form]) -> (&Form, &[Form])
 
 // As many forms as the operator wants.
 #[cycle(build)]
+#[tactic(auto, using(crate::proofs::Making::sequence_made, crate::proofs::Making::printed_made, crate::proofs::Making::applied_made, crate::proofs::Making::before_made, crate::proofs::Making::each_made))]
 fn of_forms<'a>(
     make: Maker,
     dropped: bool,

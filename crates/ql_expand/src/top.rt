@@ -81,6 +81,7 @@ fn tops_of<'a>(alloc: Global, text: &'a Text) -> Result<Tops<'a>, AllocError>
 
 impl<'a> Tops<'a> {
     // Adds what a top form adds, last.
+    #[tactic(auto, using(crate::proofs::Gathering::cores_last))]
     fn add(&mut self, top: Top<'a>) -> Result<(), AllocError>
         ensures functions { (after : List Defined) → OnOk result (map function_of self.new.functions ++ after ≡ map function_of self.old.functions ++ with_function top.entry after) }
         ensures globals { (after : List ℕ) → OnOk result (self.new.globals ++ after ≡ self.old.globals ++ with_global top.entry after) }
@@ -113,6 +114,7 @@ fn added_by<'a>(alloc: Global, form: &'a Form) -> Result<Top<'a>, AllocError>
 }
 
 // A form that defines nothing.
+#[tactic(auto, using(crate::specs::Expands::top_form))]
 fn plain<'a>(alloc: Global, form: &'a Form) -> Result<Top<'a>, AllocError>
     requires { IsFine (form_of form.now) }
     ensures { IfOk result (λ t. Adds (form_of form.now) t) }
@@ -122,6 +124,7 @@ fn plain<'a>(alloc: Global, form: &'a Form) -> Result<Top<'a>, AllocError>
 }
 
 // A `defun` form with these parts.
+#[tactic(auto, using(crate::proofs::TopForms::definition_is, crate::specs::Expands::top_function))]
 fn definition<'a>(alloc: Global, at: Offset, parts: &'a [Form]) -> Result<Top<'a>, AllocError>
     requires { IsFineSplit (definition_by (forms_of parts.now)) }
     ensures { (o w : ℕ) → operator_of w ≡ Defun → IfOk result (λ t. Adds (applied at.0 o w (forms_of parts.now)) t) }
@@ -146,6 +149,7 @@ fn definition<'a>(alloc: Global, at: Offset, parts: &'a [Form]) -> Result<Top<'a
 }
 
 // A `defvar` form with these parts.
+#[tactic(auto, using(crate::proofs::TopForms::assignment_is, crate::specs::Expands::top_global))]
 fn global<'a>(alloc: Global, at: Offset, parts: &'a [Form]) -> Result<Top<'a>, AllocError>
     requires { IsFineSplit (assignment_by (forms_of parts.now)) }
     ensures { (o w : ℕ) → operator_of w ≡ Defvar → IfOk result (λ t. Adds (applied at.0 o w (forms_of parts.now)) t) }
