@@ -30,11 +30,6 @@ use Rattle.ql_expand.proofs.Splits.{form_is}
 use Rattle.ql_expand.proofs.Counts.{rest, nothing_left}
 use Rattle.ql_expand.proofs.Gathering.{cores_last, cores_alone}
 
-pub pushed_core : {A E : Type 0} (r : Result A E) (xs ys : List Core) (x : Core) (cs : Cores) → OnOk r (ys ≡ xs ++ x ∷ [])
-    → OnOk r (joined_cores (cores_of ys) cs ≡ joined_cores (cores_of xs) (and_core (core_of x) cs))
-pushed_core (Ok a) xs ys x cs e = ap (λ z. joined_cores (cores_of z) cs) e ∙ cores_last xs x cs
-pushed_core (Err a) xs ys x cs e = tt
-
 -- a top form at a place has no fault
 pub fine_top_at : (names : List (List ℕ)) (xs : List Form) (i : ℕ) (x : Form) → source_faults names (forms_of xs) ≡ [] → i < length xs → x ≡ get_or xs i x → IsFineTop (form_of x)
 fine_top_at names =
@@ -66,7 +61,7 @@ assignment_is (more (atom p (symbol w)) (more g none)) o v f e = cc
 assignment_is fs o v f e = cc
 
 -- the parts of a top form without a fault
-pub fine_parts : (f : Datum) (o : (ℕ × ℕ) × Forms) → IsFineTop f → operation_in f ≡ Some o → IsFineSplit (parts_by (reading_of (operator_of o.0.1)) o.1)
+fine_parts : (f : Datum) (o : (ℕ × ℕ) × Forms) → IsFineTop f → operation_in f ≡ Some o → IsFineSplit (parts_by (reading_of (operator_of o.0.1)) o.1)
 fine_parts (atom at a) o h e = cc
 fine_parts (list at fs t) o (names, h) e =
     let r = reading_of (operator_of o.0.1) in
@@ -74,6 +69,12 @@ fine_parts (list at fs t) o (names, h) e =
     undeep 1 at (operation_faults names true 1 at (operation_in (list at fs t))) (sym (form_is names true 1 (list at fs t)) ∙ h) in
     let read : top_faults true at r ++ split_faults names (level_below r 1 o.1) at (parts_by r o.1) ≡ [] = ap (operation_faults names true 1 at) (sym e) ∙ all in
     fine_split names (level_below r 1 o.1) at (parts_by r o.1) (neither (top_faults true at r) (split_faults names (level_below r 1 o.1) at (parts_by r o.1)) read).1
+
+pub fine_definition : (f : Datum) (p w : ℕ) (fs : Forms) → IsFineTop f → operation_in f ≡ Some ((p, w), fs) → Defun ≡ operator_of w → IsFineSplit (definition_by fs)
+fine_definition f p w fs h e k = subst (λ r. IsFineSplit (parts_by (reading_of r) fs)) (sym k) (fine_parts f ((p, w), fs) h e)
+
+pub fine_global : (f : Datum) (p w : ℕ) (fs : Forms) → IsFineTop f → operation_in f ≡ Some ((p, w), fs) → Defvar ≡ operator_of w → IsFineSplit (assignment_by fs)
+fine_global f p w fs h e k = subst (λ r. IsFineSplit (parts_by (reading_of r) fs)) (sym k) (fine_parts f ((p, w), fs) h e)
 
 -- An operator that may stand inside may stand at the top.
 same_place : (r : Reading) (at : ℕ) → top_faults false 0 r ≡ [] → top_faults false at r ≡ top_faults true at r

@@ -275,7 +275,7 @@ impl Maker {
     }
 
     // Operands of an operator of two, with the number that stands before a single one.
-    #[tactic(auto, using(crate::proofs::Assembles::operands_few, crate::proofs::Assembles::operands_more))]
+    #[tactic(auto, using(crate::proofs::Assembles::operands_few))]
     fn operands<'a>(self, op: u32, unit: u8, mut cores: Vec<Core<'a>>) -> Made<'a>
         ensures { IfOk result (λ c. core_of c ≡ operands self.at.0 op unit (cores_of cores.entry.items)) }
     {

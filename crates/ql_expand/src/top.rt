@@ -62,6 +62,7 @@ pub fn program_of_text<'a>(alloc: Global, text: &'a Text) -> Result<Program<'a>,
 }
 
 // What the top forms of a source make.
+#[tactic(auto, using(crate::proofs::TopForms::fine_top_at, crate::proofs::TopForms::made_next, crate::proofs::TopForms::made_all))]
 fn tops_of<'a>(alloc: Global, text: &'a Text) -> Result<Tops<'a>, AllocError>
     requires { source_faults text.now.names (forms_of text.now.forms) ≡ [] }
     ensures { IfOk result (λ t. TopForms (forms_of text.now.forms) (map function_of t.functions) t.globals (cores_of t.body)) }
@@ -99,6 +100,7 @@ impl<'a> Tops<'a> {
 }
 
 // What a top form adds.
+#[tactic(auto, using(crate::proofs::TopForms::fine_definition, crate::proofs::TopForms::fine_global, crate::proofs::TopForms::fine_plain, crate::proofs::TopForms::plain_operator))]
 fn added_by<'a>(alloc: Global, form: &'a Form) -> Result<Top<'a>, AllocError>
     requires { IsFineTop (form_of form.now) }
     ensures { IfOk result (λ t. Adds (form_of form.now) t) }
