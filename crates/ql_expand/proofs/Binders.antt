@@ -1,16 +1,11 @@
 -- Symbols as binders, one after another.
-use Rattle.std.proofs.Common.{◌≡◌, ℕ, ◌+◌, ◌<◌, ◌≤◌, List, [], ◌∷◌, ◌++◌, length, get_or, drop, map, Option, Some, None, option_map, refl, sym, ap, ◌∙◌, append_assoc}
-use Rattle.std.proofs.lemmas.List.{append-nil}
-use Rattle.ql_base.specs.declared.numbers.Offset.{Offset}
-use Rattle.ql_forms.specs.Form.{Form as Datum, Forms, more, atom, list, symbol, integer, symbol_in}
-use Rattle.ql_forms.specs.View.{form_of, forms_of}
-use Rattle.ql_forms.specs.declared.form.Form.{Form}
+use Rattle.std.proofs.Common.{◌≡◌, ℕ, List, [], ◌∷◌, ◌++◌, Option, Some, None, refl, ap}
+use Rattle.ql_forms.specs.Form.{Form as Datum, Forms, more, atom, symbol, symbol_in}
 use Rattle.ql_expand.specs.Building.{HasBinders}
 use Rattle.ql_expand.specs.Core.{Binder, binder, named}
 use Rattle.ql_expand.specs.Expands.{with_binder, binders_in}
 use Rattle.ql_expand.specs.View.{binder_of, binders_of}
 use Rattle.ql_expand.specs.declared.core_form.Binder.{Binder as BinderValue}
-use Rattle.ql_expand.specs.declared.core_form.VarName.TheVariants.{Sym}
 
 -- These are the binders of the forms.
 abbrev pub Named : Forms → List Binder → Type 0

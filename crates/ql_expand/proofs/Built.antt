@@ -1,37 +1,16 @@
 -- What is built of parts that fit.
-use Rattle.std.proofs.Common.{◌≡◌, ℕ, ◌+◌, ◌≤◌, List, Option, Some, None, option_map, refl, sym, ap, subst, ◌∙◌, arith, Result, Ok, Err}
-use Rattle.std.specs.Prelude.{IfOk, Bool, true, false, ◌==◌, ◌&&◌}
-use Rattle.std.proofs.lemmas.Bool.Decides.{nat_tests}
-use Rattle.ql_base.specs.Reserved.{number}
-use Rattle.ql_base.specs.declared.reserved.Reserved.TheVariants.{Cond as CondWord}
-use Rattle.ql_expand.specs.declared.assemble.Way.TheVariants as ways
+use Rattle.std.proofs.Common.{◌≡◌, ℕ, ◌+◌, ◌≤◌, Option, Some, None, option_map, refl, ap, subst, ◌∙◌, arith}
+use Rattle.std.specs.Prelude.{true, false}
 use Rattle.ql_expand.proofs.Fine.{bind_parts}
-use Rattle.ql_expand.proofs.Making.{word_is, no_clause_made, clause_alone_made, clause_made}
-use Rattle.std.specs.declared.alloc.AllocError.{AllocError}
-use Rattle.ql_forms.specs.Form.{Form, Forms, none, more, atom, list, Tail, proper, dotted, symbol, integer, operation_in, place_of, count}
-use Rattle.ql_expand.specs.Assembly.{nil_core, either, of_each, way_of}
+use Rattle.ql_forms.specs.Form.{Form, Forms, none, more, atom, list, proper, dotted, symbol, operation_in, place_of, count}
+use Rattle.ql_expand.specs.Assembly.{nil_core}
 use Rattle.ql_expand.specs.Building.{Fits, fits_datum, fits_forms, allows, IsFine, AreFine, IsFineBind, weight}
 use Rattle.ql_expand.specs.Core as spec
 use Rattle.ql_expand.specs.Core.{binder, named}
-use Rattle.ql_expand.specs.Expands.{applied, one, Expands, Body, forms as turns, InTurn, last_form, then_forms, Bind, with_value, without_value, alone}
-use Rattle.ql_expand.specs.Operator.{operator_of, reading_of}
-use Rattle.ql_expand.specs.Parts.{Split, forms, definition, bind_in, clause_in}
-use Rattle.ql_expand.specs.View.{core_of}
-use Rattle.ql_expand.specs.declared.core_form.Core.{Core}
+use Rattle.ql_expand.specs.Expands.{applied, Expands, Bind, with_value, without_value, alone}
+use Rattle.ql_expand.specs.Operator.{reading_of}
+use Rattle.ql_expand.specs.Parts.{Split, forms, definition, bind_in}
 use Rattle.ql_expand.specs.declared.operator.Operator.{Operator}
-use Rattle.ql_expand.specs.declared.operator.Operator.TheVariants.{Cond, And, Or}
-
-pub on_core : (r : Result Core AllocError) (P Q : spec.Core → Type 0) → ((k : spec.Core) → P k → Q k) → IfOk r (λ k. P (core_of k)) → IfOk r (λ k. Q (core_of k))
-on_core (Ok k) P Q f h = f (core_of k) h
-on_core (Err e) P Q f h = h
-
-pub all_made : (r : Result Core AllocError) {e : spec.Core} (P : spec.Core → Type 0) → IfOk r (λ k. core_of k ≡ e) → P e → IfOk r (λ k. P (core_of k))
-all_made (Ok k) P h x = rw h x
-all_made (Err a) P h x = h
-
-pub when_made : (r : Result Core AllocError) {e : spec.Core} {d : Bool} {f : Form} → IfOk r (λ k. core_of k ≡ e) → Expands d f e → IfOk r (λ k. Expands d f (core_of k))
-when_made (Ok k) h x = rw h x
-when_made (Err a) h x = h
 
 pub forms_fit : {p r : Operator} {fs gs : Forms} → Fits r fs (forms gs) → p ≡ r → AreFine gs → (allows (reading_of p) (count fs) ≡ true) × AreFine fs
 forms_fit (fits_forms h) q y = (rw q h, y)
@@ -73,6 +52,3 @@ module _ {A : Type 0} (see : A → Form) (f : Form) {v : ℕ × ℕ} {o : Option
       → ((weight (see a) + 1 ≤ weight f) × ((k : spec.Core) → Expands false (see a) k → Bind f (binder v.0 (named v.1)) k)) × (IsFineBind f → IsFine (see a))
   bind_value {a = a} h e =
       let is : bind_in f ≡ Some (v, Some (see a)) = h ∙ ap (λ p. Some (v, option_map see p)) e in (subst (BoundBy f) is (bound_by f), bind_parts f is)
-
-pub bind_made : (f : Form) (b : spec.Binder × spec.Core) (n : spec.Binder) (k : spec.Core) → b ≡ (n, k) → Bind f n k → Bind f b.0 b.1
-bind_made f b n k e h = rw e h

@@ -7,7 +7,7 @@ use Rattle.ql_base.specs.declared.refusal.FaultKind.TheVariants.{BadTop, Reserve
 use Rattle.ql_forms.specs.Form.{Form, Forms, none, more, atom, list, proper, symbol, is_nil, place_of, count}
 use Rattle.ql_forms.specs.Numbered.{letters}
 use Rattle.ql_expand.specs.Core.{Binder, binder, named, hidden}
-use Rattle.ql_expand.specs.ExpandFault.{misshapen, under_sugar, parts_of_bindings, fits, variable_faults, function_faults, is_marked, parameter_faults, binder_faults, shape_of_parameters, parameters_faults, unless_deep, where_fits, unless_top, form_faults, forms_faults, assignment_faults, bind_faults, binds_faults, binding_faults, form_and_binding_faults, lambda_faults, form_and_lambda_faults, definition_faults, clause_faults, clauses_faults, source_faults, expand_fault}
+use Rattle.ql_expand.specs.ExpandFault.{misshapen, under_sugar, parts_of_bindings, fits, variable_faults, function_faults, is_marked, binder_faults, shape_of_parameters, parameters_faults, unless_deep, where_fits, unless_top, form_faults, forms_faults, assignment_faults, bind_faults, binds_faults, binding_faults, form_and_binding_faults, lambda_faults, form_and_lambda_faults, definition_faults, clause_faults, clauses_faults, source_faults, expand_fault}
 use Rattle.ql_expand.specs.Expands.{parameters_in}
 use Rattle.ql_expand.specs.Operator.{operator_of, reading_of, is_constant, is_call}
 use Rattle.ql_expand.specs.declared.operator.Reading.{Reading}

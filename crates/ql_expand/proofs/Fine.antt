@@ -1,19 +1,19 @@
 -- A form without a fault has parts without one.
-use Rattle.std.proofs.Common.{◌≡◌, ℕ, ◌+◌, ◌<◌, ◌≤◌, zero, suc, List, [], ◌∷◌, ◌++◌, length, get_or, Option, Some, None, refl, sym, ap, ◌∙◌, subst, arith}
+use Rattle.std.proofs.Common.{◌≡◌, ℕ, ◌+◌, ◌<◌, ◌≤◌, zero, suc, List, [], ◌∷◌, ◌++◌, length, get_or, Option, Some, None, refl, sym, ap, ◌∙◌, arith}
 use Rattle.std.specs.Prelude.{Bool, true, false, ltb, if◌then◌else◌}
-use Rattle.ql_forms.specs.Form.{Form as Datum, Forms, none, more, atom, list, Tail, proper, dotted, symbol, integer, items_of, operation_in, place_of, count}
+use Rattle.ql_forms.specs.Form.{Form as Datum, Forms, none, more, atom, list, proper, symbol, items_of, place_of, count}
 use Rattle.ql_forms.specs.View.{form_of, forms_of}
 use Rattle.ql_forms.specs.declared.form.Form.{Form}
 use Rattle.ql_base.specs.declared.refusal.Fault.{Fault}
-use Rattle.ql_expand.specs.Building.{weight, weights, IsList, IsFine, AreFine, IsFineBind, AreFineBinds, IsFineClause, AreFineClauses, HasParameters, IsFineSplit, Fits, fits_datum, fits_forms, fits_assignment, fits_let, fits_let_star, fits_qlet, fits_lambda, fits_qlambda, fits_clauses, allows}
+use Rattle.ql_expand.specs.Building.{weight, weights, IsFine, AreFine, IsFineBind, AreFineBinds, IsFineClause, AreFineClauses, HasParameters, IsFineSplit, Fits, fits_datum, fits_forms, fits_assignment, fits_let, fits_let_star, fits_qlet, fits_lambda, fits_qlambda, fits_clauses, allows}
 use Rattle.ql_expand.specs.Core.{Binder}
-use Rattle.ql_expand.specs.ExpandFault.{misshapen as bad_shape, unless_deep, fits, form_faults, forms_faults, bind_faults, binds_faults, clause_faults, clauses_faults, variable_faults, function_faults, parameters_faults, shape_of_parameters}
+use Rattle.ql_expand.specs.ExpandFault.{misshapen as bad_shape, unless_deep, form_faults, forms_faults, bind_faults, binds_faults, clause_faults, clauses_faults, variable_faults, function_faults, parameters_faults, shape_of_parameters}
 use Rattle.ql_expand.specs.Expands.{applied, parameters_in}
 use Rattle.ql_expand.specs.Operator.{operator_of, reading_of}
-use Rattle.ql_expand.specs.Parts.{Split, misshapen, datum, forms, assignment, bindings, form_and_bindings, parameters, form_and_parameters, definition, clauses, parts_by, datum_by, forms_by, assignment_by, bindings_by, with_binds, form_and_bindings_by, after, parameters_by, form_and_parameters_by, bind_in, clause_in}
-use Rattle.ql_expand.specs.Searching.{split_faults, operation_faults, top_faults, level_below, bound_faults, tested_faults}
+use Rattle.ql_expand.specs.Parts.{Split, misshapen, datum, forms, assignment, bindings, form_and_bindings, parameters, form_and_parameters, definition, clauses, parts_by, datum_by, assignment_by, bindings_by, with_binds, form_and_bindings_by, after, parameters_by, form_and_parameters_by, bind_in, clause_in}
+use Rattle.ql_expand.specs.Searching.{split_faults, top_faults, level_below, bound_faults, tested_faults}
 use Rattle.ql_expand.specs.declared.operator.Operator.{Operator}
-use Rattle.ql_expand.specs.declared.operator.Operator.TheVariants.{Constant, Quote, Defun, Defvar, Lambda, Qlambda, Setq, If, Progn, Let, Qlet, Catch, Qcatch, Throw, Protect, Funcall, Print, Unary, Binary, Sum, Difference, Product, Not, AtMost, AtLeast, Cond, And, Or, When, Unless, LetStar, List as ListOf, Call}
+use Rattle.ql_expand.specs.declared.operator.Operator.TheVariants.{Constant, Quote, Defun, Defvar, Lambda, Qlambda, Setq, Let, Qlet, Cond, LetStar}
 use Rattle.ql_expand.proofs.Splits.{form_is, bind_is, clause_is}
 
 -- ---- no faults
@@ -160,8 +160,14 @@ at_place P Q step [] i x h k e = absurd (omega arith)
 at_place P Q step (y ∷ xs) zero x h k e = rw e (step (form_of y) (forms_of xs) h).0
 at_place P Q step (y ∷ xs) (suc i) x h k e = let within : i < length xs = omega arith in at_place P Q step xs i x (step (form_of y) (forms_of xs) h).1 within e
 
-pub fine_first_bind : (f : Datum) (fs : Forms) → AreFineBinds (more f fs) → IsFineBind f × AreFineBinds fs
+fine_first_bind : (f : Datum) (fs : Forms) → AreFineBinds (more f fs) → IsFineBind f × AreFineBinds fs
 fine_first_bind f fs (names, n, h) = let both = neither (bind_faults names n f) (binds_faults names n fs) h in ((names, n, both.0), (names, n, both.1))
+
+pub fine_at : (xs : List Form) (i : ℕ) (x : Form) → AreFine (forms_of xs) → i < length xs → x ≡ get_or xs i x → IsFine (form_of x)
+fine_at = at_place AreFine IsFine fine_first
+
+pub fine_bind_at : (xs : List Form) (i : ℕ) (x : Form) → AreFineBinds (forms_of xs) → i < length xs → x ≡ get_or xs i x → IsFineBind (form_of x)
+fine_bind_at = at_place AreFineBinds IsFineBind fine_first_bind
 
 before_last : (names : List (List ℕ)) (n : ℕ) (xs : List Form) (x : Form) → forms_faults names n (forms_of (xs ++ x ∷ [])) ≡ []
     → (forms_faults names n (forms_of xs) ≡ []) × (form_faults names false n (form_of x) ≡ [])

@@ -1,5 +1,5 @@
 -- What loops over forms have built so far.
-use Rattle.std.proofs.Common.{◌≡◌, ℕ, ◌+◌, ◌<◌, ◌≤◌, List, [], ◌∷◌, ◌++◌, length, get_or, drop, refl, sym, ap, subst, ◌∙◌, arith, length-append}
+use Rattle.std.proofs.Common.{◌≡◌, ℕ, ◌≤◌, List, [], ◌∷◌, ◌++◌, length, refl, sym, ap, ◌∙◌, arith, length-append}
 use Rattle.std.specs.Prelude.{Bool, true, false, ◌==◌}
 use Rattle.std.proofs.lemmas.Bool.Decides.{nat_tests}
 use Rattle.ql_forms.specs.Form.{Form as Datum, Forms, none, more, count}
@@ -9,7 +9,7 @@ use Rattle.ql_expand.specs.Assembly.{nil_core}
 use Rattle.ql_expand.specs.Building.{EachOf, none_of, one_of}
 use Rattle.ql_expand.specs.Core as spec
 use Rattle.ql_expand.specs.Core.{core, progn, Cores, no_cores, and_core, joined_cores, Bounds, no_bounds, and_bound, joined_bounds}
-use Rattle.ql_expand.specs.Expands.{Expands, Body, no_forms, one_form, forms, InTurn, last_form, then_forms, Bind, Binds, none_bound, one_bound}
+use Rattle.ql_expand.specs.Expands.{Expands, Body, no_forms, one_form, forms, InTurn, last_form, then_forms}
 use Rattle.ql_expand.specs.View.{core_of, cores_of, bound_of, bounds_of}
 use Rattle.ql_expand.specs.declared.core_form.Bound.{Bound}
 use Rattle.ql_expand.specs.declared.core_form.Core.{Core}

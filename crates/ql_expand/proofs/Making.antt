@@ -7,18 +7,18 @@ use Rattle.ql_base.specs.Reserved.{number}
 use Rattle.ql_base.specs.declared.reserved.Reserved.{Reserved}
 use Rattle.ql_base.specs.declared.reserved.Reserved.TheVariants.{Null, Greater, Less, Cons, Nil, True, If as IfWord, And as AndWord, Or as OrWord, Progn as PrognWord, Cond as CondWord, Let as LetWord, LetStar as LetStarWord, List as ListWord}
 use Rattle.ql_forms.specs.Form.{Form, Forms, none, more, atom, list, proper, dotted, symbol, integer, Atom, items_of, place_of, count, is_nil}
-use Rattle.ql_expand.specs.Assembly.{atom_core, nil_core, number_core, with_two, either, linked, chain, all_linked, folded, operands, nested, let_core, before_body, of_each, way_of}
-use Rattle.ql_expand.specs.Building.{Fits, fits_datum, fits_forms, fits_assignment, fits_let, fits_let_star, fits_qlet, fits_lambda, fits_qlambda, fits_clauses, allows, passes, Clauses, EachOf, none_of, one_of}
-use Rattle.ql_expand.specs.Core.{named, Binder, Core, core, Cores, no_cores, and_core, Bounds, no_bounds, and_bound, constant, setq, conditional, progn, binding, variable, print, funcall, throw, protect, lambda, qlet, qlambda}
+use Rattle.ql_expand.specs.Assembly.{atom_core, nil_core, number_core, with_two, either, chain, all_linked, folded, operands, nested, let_core, before_body, of_each, way_of}
+use Rattle.ql_expand.specs.Building.{Fits, fits_datum, fits_assignment, fits_let, fits_let_star, fits_qlet, fits_lambda, fits_qlambda, fits_clauses, allows, passes, Clauses, EachOf, none_of, one_of}
+use Rattle.ql_expand.specs.Core.{named, Binder, Core, core, Cores, no_cores, and_core, Bounds, constant, setq, conditional, variable, print, funcall, throw, protect, lambda, qlet, qlambda}
 use Rattle.ql_expand.specs.ExpandFault.{fits}
-use Rattle.ql_expand.specs.Expands.{applied, added, nil_at, one, two, parameters_in, no_terms, no_factors, one_term, one_factor, negative, more_operands, not_null, at_most, at_least, list_none, list_more, and_none, and_one, and_more, or_none, or_one, when, unless, cond_none, cond_test, cond_forms, let_star_none, let_star_one, let_star_more, Expands, sugar, or_more, integer_alone, constant_word, quoted, variable_word, assigned, if_then, if_else, sequence, bound, one_operand, two_operands, printed, called, value_called, closed, bound_apart, closed_apart, caught, caught_all, thrown, protected, Body, no_forms, one_form, forms, InTurn, Each, none_left, one_more, Bind, Binds, none_bound, one_bound}
+use Rattle.ql_expand.specs.Expands.{applied, nil_at, one, two, parameters_in, no_terms, no_factors, one_term, one_factor, negative, more_operands, not_null, at_most, at_least, list_none, list_more, and_none, and_one, and_more, or_none, or_one, when, unless, cond_none, cond_test, cond_forms, let_star_none, let_star_one, let_star_more, Expands, sugar, or_more, integer_alone, constant_word, quoted, variable_word, assigned, if_then, if_else, sequence, bound, one_operand, two_operands, printed, called, value_called, closed, bound_apart, closed_apart, caught, caught_all, thrown, protected, Body, no_forms, one_form, forms, Each, none_left, one_more, Binds, none_bound, one_bound}
 use Rattle.ql_expand.specs.Operator.{operator_of, reserved_operator, reading_of, takes_two, is_arithmetic, is_constant}
 use Rattle.ql_expand.specs.Parts as parts
 use Rattle.ql_expand.specs.Parts.{clause_in}
 use Rattle.ql_expand.proofs.Fine.{clause_shape}
 use Rattle.ql_expand.specs.declared.assemble.Way.TheVariants as ways
 use Rattle.ql_expand.specs.declared.operator.Operator.{Operator}
-use Rattle.ql_expand.specs.declared.operator.Operator.TheVariants.{Constant, Quote, Setq, If, Progn, Let, Catch, Qcatch, Throw, Protect, Funcall, Print, Unary, Binary, Sum, Difference, Product, Not, AtMost, AtLeast, Cond, And, Or, When, Unless, LetStar, List as ListOf, Call}
+use Rattle.ql_expand.specs.declared.operator.Operator.TheVariants.{If, Progn, Catch, Qcatch, Throw, Protect, Funcall, Print, Unary, Binary, Sum, Difference, Product, Not, AtMost, AtLeast, And, Or, When, Unless, LetStar, List as ListOf, Call}
 
 -- ---- the words that sugar adds
 

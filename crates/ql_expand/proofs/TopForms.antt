@@ -1,24 +1,21 @@
 -- Top forms, one after another.
-use Rattle.std.proofs.Common.{◌≡◌, ℕ, ◌+◌, ◌<◌, ◌≤◌, zero, suc, List, [], ◌∷◌, ◌++◌, drop, length, get_or, map, Some, None, Option, refl, sym, ap, ◌∙◌, subst, arith}
-use Rattle.std.specs.Prelude.{if◌then◌else◌, ◌||◌, ◌&&◌, ◌==◌, Bool, true, false, ltb, slice_get, Result, Ok, Err, OnOk}
+use Rattle.std.proofs.Common.{◌≡◌, ℕ, ◌+◌, ◌<◌, ◌≤◌, List, [], ◌++◌, drop, length, get_or, map, Some, None, Option, refl, sym, ap, ◌∙◌, subst, arith}
+use Rattle.std.specs.Prelude.{true, false}
 use Rattle.std.proofs.lemmas.List.{append-nil}
 use Rattle.std.proofs.lemmas.Option.{slice_get_within}
 use Rattle.ql_base.specs.Names.{BeginsWithReserved}
-use Rattle.ql_base.specs.Refusal.{first_of}
-use Rattle.ql_base.specs.declared.refusal.Fault.{Fault}
-use Rattle.ql_forms.specs.Form.{Form as Datum, Forms, none, more, atom, list, Tail, proper, dotted, symbol, integer, operation_in, place_of}
+use Rattle.ql_forms.specs.Form.{Form as Datum, Forms, none, more, atom, list, symbol, integer, operation_in}
 use Rattle.ql_forms.specs.View.{form_of, forms_of}
 use Rattle.ql_forms.specs.declared.form.Form.{Form}
 use Rattle.ql_expand.specs.Building.{IsFine, IsFineSplit}
-use Rattle.ql_expand.specs.Core.{Cores, no_cores, and_core, joined_cores}
+use Rattle.ql_expand.specs.Core.{Cores, no_cores, joined_cores}
 use Rattle.ql_expand.specs.ExpandFault.{form_faults, source_faults, unless_deep}
-use Rattle.ql_expand.specs.Expands.{TopForms, no_tops, applied}
+use Rattle.ql_expand.specs.Expands.{TopForms, no_tops}
 use Rattle.ql_expand.specs.Operator.{operator_of, reading_of}
-use Rattle.ql_expand.specs.Parts.{Split, definition, assignment, definition_by, assignment_by, parts_by}
+use Rattle.ql_expand.specs.Parts.{definition, assignment, definition_by, assignment_by, parts_by}
 use Rattle.ql_expand.specs.Searching.{split_faults, operation_faults, top_faults, level_below}
 use Rattle.ql_expand.specs.Tops.{IsFineTop, Adds, Made, with_function, with_global, with_core}
-use Rattle.ql_expand.specs.View.{core_of, cores_of, function_of}
-use Rattle.ql_expand.specs.declared.core_form.Core.{Core}
+use Rattle.ql_expand.specs.View.{cores_of, function_of}
 use Rattle.ql_expand.specs.declared.operator.Operator.{Operator}
 use Rattle.ql_expand.specs.declared.operator.Operator.TheVariants.{Defun, Defvar}
 use Rattle.ql_expand.specs.declared.operator.Reading.{Reading}
@@ -28,7 +25,7 @@ use Rattle.ql_expand.specs.declared.top.Tops.{Tops}
 use Rattle.ql_expand.proofs.Fine.{neither, undeep, fine_split, at_place}
 use Rattle.ql_expand.proofs.Splits.{form_is}
 use Rattle.ql_expand.proofs.Counts.{rest, nothing_left}
-use Rattle.ql_expand.proofs.Gathering.{cores_last, cores_alone}
+use Rattle.ql_expand.proofs.Gathering.{cores_alone}
 
 -- a top form at a place has no fault
 pub fine_top_at : (names : List (List ℕ)) (xs : List Form) (i : ℕ) (x : Form) → source_faults names (forms_of xs) ≡ [] → i < length xs → x ≡ get_or xs i x → IsFineTop (form_of x)

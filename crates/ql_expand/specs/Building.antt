@@ -1,5 +1,5 @@
 -- Forms without a fault, their parts, and what they are built of. It serves the proofs.
-use Rattle.std.specs.Prelude.{◌≡◌, ◌+◌, ◌==◌, ◌&&◌, ℕ, Bool, true, false, List, [], Option, Some, None}
+use Rattle.std.specs.Prelude.{◌≡◌, ◌+◌, ◌==◌, ◌&&◌, ℕ, Bool, true, false, List, [], Some, None}
 use Rattle.ql_forms.specs.Form.{Form, Forms, none, more, atom, list, symbol, items_of, count}
 use Rattle.ql_expand.specs.Core.{Core, Cores, no_cores, and_core, Binder}
 use Rattle.ql_expand.specs.ExpandFault.{fits, form_faults, forms_faults, bind_faults, binds_faults, clause_faults, clauses_faults}

@@ -143,6 +143,7 @@ fn boxed_body<'a>(make: Maker, forms: &'a [Form]) -> Result<Child<'a>, AllocErro
 
 // Forms whose values are all dropped, or all used.
 #[cycle(build)]
+#[tactic(auto, using(crate::proofs::Weights::weight_at, crate::proofs::Fine::fine_at))]
 fn each<'a>(alloc: Global, dropped: bool, forms: &'a [Form]) -> Result<Vec<Core<'a>>, AllocError>
     requires { AreFine (forms_of forms.now) }
     ensures { IfOk result (λ cores. EachOf dropped (forms_of forms.now) (cores_of cores.items)) }
@@ -157,6 +158,7 @@ fn each<'a>(alloc: Global, dropped: bool, forms: &'a [Form]) -> Result<Vec<Core<
 
 // Bindings.
 #[cycle(build)]
+#[tactic(auto, using(crate::proofs::Weights::weight_at, crate::proofs::Fine::fine_bind_at))]
 fn all_bound<'a>(alloc: Global, forms: &'a [Form]) -> Result<Items<Bound<'a>>, AllocError>
     requires { AreFineBinds (forms_of forms.now) }
     ensures { IfOk result (λ bounds. Binds (forms_of forms.now) (bounds_of bounds)) }

@@ -1,30 +1,17 @@
 -- That the core of forms is what they expand to.
-use Rattle.std.proofs.Common.{Bor, ◌≡◌, ◌+◌, ◌≤◌, ℕ, arith, sym, ap, subst, ◌∙◌, option_map, Some, None, refl, length-append}
-use Rattle.std.specs.Prelude.{Bool, true, false}
-use Rattle.ql_forms.specs.Form.{more}
+use Rattle.std.proofs.Common.{Bor, arith, sym, ap, subst, ◌∙◌}
 use Rattle.ql_forms.specs.View.{form_of, forms_of}
 use Rattle.ql_forms.specs.declared.form.Form.{Form}
-use Rattle.ql_expand.specs.Building.{Clauses, EachOf, none_of, one_of, weight, weights, IsFine, AreFine, IsFineBind, AreFineBinds, AreFineClauses}
-use Rattle.ql_expand.specs.Core.{binder, named, no_cores, no_bounds}
-use Rattle.ql_expand.specs.Expands.{applied, Expands, Body, Binds, none_bound, one_bound}
-use Rattle.ql_expand.specs.View.{core_of, cores_of, bound_of, bounds_of}
-use Rattle.ql_expand.proofs.Counts.{as_many}
-use Rattle.ql_expand.specs.Assembly.{nil_core, either}
-use Rattle.ql_expand.specs.declared.operator.Operator.TheVariants.{Cond}
-use Rattle.ql_expand.proofs.Built.{all_made, on_core, when_made, forms_fit, no_definition, operation_shape, bind_alone, bind_value}
-use Rattle.ql_expand.proofs.Fine.{clause_parts, clauses_parts, fine_first, fine_first_bind, at_place}
-use Rattle.ql_expand.proofs.Gathering.{with_cores, then_core, cores_last, cores_alone, with_bounds, then_bound, bounds_last, bounds_alone, body_none, body_alone, body_turns}
+use Rattle.ql_expand.specs.Building.{EachOf, none_of, one_of, weight, IsFine}
+use Rattle.ql_expand.specs.Core.{no_cores, no_bounds}
+use Rattle.ql_expand.specs.Expands.{applied, Binds, none_bound, one_bound}
+use Rattle.ql_expand.specs.View.{bounds_of}
+use Rattle.ql_expand.proofs.Built.{forms_fit, operation_shape, bind_alone, bind_value}
+use Rattle.ql_expand.proofs.Gathering.{with_cores, then_core, cores_last, cores_alone, with_bounds, then_bound, bounds_last, bounds_alone}
 use Rattle.ql_expand.proofs.Loops.{so_far_more, so_far_all}
-use Rattle.ql_expand.proofs.Making.{atom_seen, each_made, sequence_made, printed_made, tested_made, applied_made, before_made, quote_made, let_made, qlet_made, lambda_made, qlambda_made, setq_made, cond_made, no_clause_made, clause_alone_made, clause_made}
-use Rattle.ql_expand.proofs.Weights.{weight_at, ends}
+use Rattle.ql_expand.proofs.Making.{tested_made, clause_made}
+use Rattle.ql_expand.proofs.Weights.{ends}
 use Rattle.ql_expand.proofs.build.+build.Goals as goal
-
-pub all_bound-bind-requires : goal.all_bound-bind-requires
-all_bound-bind-requires t c =
-    let xs = c.args.forms.now in
-    let i = c.loop-form.form-index in
-    let x = c.form-item.result in
-    (omega (arith, weight_at xs i x c.loop-form-test.true c.form-item.is), at_place AreFineBinds IsFineBind fine_first_bind xs i x c.requires c.loop-form-test.true c.form-item.is)
 
 pub all_bound-loop-form-preserved : goal.all_bound-loop-form-preserved
 all_bound-loop-form-preserved t c =
@@ -35,13 +22,6 @@ pub all_bound-returns : goal.all_bound-returns
 all_bound-returns t c =
     subst (Binds (forms_of c.args.forms.now)) (bounds_alone _ ∙ sym (ap bounds_of c.from_vec.ensures))
     (so_far_all Binds with_bounds no_bounds c.args.forms.now c.loop-form.form-index c.loop-form.bounds.items c.loop-form.invariant c.loop-form-test.false none_bound)
-
-pub each-expanded-requires : goal.each-expanded-requires
-each-expanded-requires t c =
-    let xs = c.args.forms.now in
-    let i = c.loop-form.form-index in
-    let x = c.form-item.result in
-    (omega (arith, weight_at xs i x c.loop-form-test.true c.form-item.is), at_place AreFine IsFine fine_first xs i x c.requires c.loop-form-test.true c.form-item.is)
 
 pub each-loop-form-preserved : goal.each-loop-form-preserved
 each-loop-form-preserved t c =
