@@ -1,32 +1,23 @@
 -- What is built of parts that fit.
-use Rattle.std.proofs.Common.{◌≡◌, ℕ, ◌+◌, ◌≤◌, Option, Some, None, option_map, refl, ap, subst, ◌∙◌, arith}
+use Rattle.std.proofs.Common.{◌≡◌, ℕ, ◌+◌, ◌≤◌, Option, Some, None, option_map, ap, subst, ◌∙◌, arith}
 use Rattle.std.specs.Prelude.{true, false}
 use Rattle.ql_expand.proofs.Fine.{bind_parts}
 use Rattle.ql_forms.specs.Form.{Form, Forms, none, more, atom, list, proper, dotted, symbol, operation_in, place_of, count}
 use Rattle.ql_expand.specs.Assembly.{nil_core}
-use Rattle.ql_expand.specs.Building.{Fits, fits_datum, fits_forms, allows, IsFine, AreFine, IsFineBind, weight}
+use Rattle.ql_expand.specs.Building.{Fits, fits_forms, allows, IsFine, AreFine, IsFineBind, weight}
 use Rattle.ql_expand.specs.Core as spec
 use Rattle.ql_expand.specs.Core.{binder, named}
 use Rattle.ql_expand.specs.Expands.{applied, Expands, Bind, with_value, without_value, alone}
 use Rattle.ql_expand.specs.Operator.{reading_of}
-use Rattle.ql_expand.specs.Parts.{Split, forms, definition, bind_in}
+use Rattle.ql_expand.specs.Parts.{forms, bind_in}
 use Rattle.ql_expand.specs.declared.operator.Operator.{Operator}
 
 pub forms_fit : {p r : Operator} {fs gs : Forms} → Fits r fs (forms gs) → p ≡ r → AreFine gs → (allows (reading_of p) (count fs) ≡ true) × AreFine fs
 forms_fit (fits_forms h) q y = (rw q h, y)
 
-pub no_definition : {r : Operator} {fs es : Forms} {s : Split} {o v : ℕ} {ps : Form} → Fits r fs s → s ≡ definition o v ps es → ⊥
-no_definition fits_datum e = cc
-no_definition _ e = cc
-
 pub operation_shape : (f : Form) (o w : ℕ) (fs : Forms) → operation_in f ≡ Some ((o, w), fs) → f ≡ applied (place_of f) o w fs
 operation_shape (list at (more (atom p (symbol v)) gs) proper) o w fs k =
-    let pair : ((p, v), gs) ≡ ((o, w), fs) = cc in
-    let head : (p, v) ≡ (o, w) = ap (λ (q : (ℕ × ℕ) × Forms). q.0) pair in
-    let rest : gs ≡ fs = ap (λ (q : (ℕ × ℕ) × Forms). q.1) pair in
-    let place : p ≡ o = ap (λ (q : ℕ × ℕ). q.0) head in
-    let word : v ≡ w = ap (λ (q : ℕ × ℕ). q.1) head in
-    rw (place, word, rest) refl
+    let pair : ((p, v), gs) ≡ ((o, w), fs) = cc in ap (λ (q : (ℕ × ℕ) × Forms). applied at q.0.0 q.0.1 q.1) pair
 operation_shape f o w fs k = cc
 
 -- ---- bindings

@@ -36,7 +36,7 @@ has_parameters names ps = by_binders (parameters_in ps) refl
     by_binders None h e = cc
     by_binders (Some bs) h e = (bs, h)
 
-pub fine_split : (names : List (List ℕ)) (n at : ℕ) (s : Split) → split_faults names n at s ≡ [] → IsFineSplit s
+fine_split : (names : List (List ℕ)) (n at : ℕ) (s : Split) → split_faults names n at s ≡ [] → IsFineSplit s
 fine_split names n at misshapen e = cc
 fine_split names n at (datum f) e = tt
 fine_split names n at (forms fs) e = (names, n, e)
@@ -111,15 +111,19 @@ split_fits at Qlet fs e h = qlet_fits fs h
 split_fits at Cond fs e h = fits_clauses
 split_fits at r fs e h = forms_fit r fs (allows (reading_of r) (count fs)) refl h
 
+-- The parts of a list without a fault have none.
+pub fine_operation : (names : List (List ℕ)) (top : Bool) (n at o w : ℕ) (fs : Forms) → form_faults names top n (applied at o w fs) ≡ []
+    → (top_faults top at (reading_of (operator_of w)) ≡ []) × IsFineSplit (parts_by (reading_of (operator_of w)) fs)
+fine_operation names top n at o w fs h =
+    let q = reading_of (operator_of w) in
+    let none_in = undeep n at (top_faults top at q ++ split_faults names (level_below q n fs) at (parts_by q fs)) (sym (form_is names top n (applied at o w fs)) ∙ h) in
+    let both = neither (top_faults top at q) (split_faults names (level_below q n fs) at (parts_by q fs)) none_in in (both.0, fine_split names (level_below q n fs) at (parts_by q fs) both.1)
+
 -- What the parts of a form are that has no fault, split as its operator reads them.
 pub parts_fit : (at o w : ℕ) (fs : Forms) (r : Operator) (s : Split) → IsFine (applied at o w fs) → r ≡ operator_of w → s ≡ parts_by (reading_of r) fs
     → IsFineSplit s × Fits r fs s
 parts_fit at o w fs r s (names, n, h) e k =
-    let q = reading_of (operator_of w) in
-    let none_in = undeep n at (top_faults false at q ++ split_faults names (level_below q n fs) at (parts_by q fs)) (sym (form_is names false n (applied at o w fs)) ∙ h) in
-    let both = neither (top_faults false at q) (split_faults names (level_below q n fs) at (parts_by q fs)) none_in in
-    let fine : IsFineSplit (parts_by q fs) = fine_split names (level_below q n fs) at (parts_by q fs) both.1 in
-    rw (k, e) (fine, split_fits at (operator_of w) fs both.0 fine)
+    let fine = fine_operation names false n at o w fs h in rw (k, e) (fine.1, split_fits at (operator_of w) fs fine.0 fine.1)
 
 -- ---- bindings and clauses
 
@@ -131,10 +135,7 @@ bind_parts f {e = e} {v = v} k (names, n, h) =
 
 pub clause_shape : (f c : Datum) (es : Forms) → clause_in f ≡ Some (c, es) → (p : ℕ) × (f ≡ list p (more c es) proper)
 clause_shape (list p (more b is) proper) c es h =
-    let pair : (b, is) ≡ (c, es) = cc in
-    let first : b ≡ c = ap (λ (q : Datum × Forms). q.0) pair in
-    let second : is ≡ es = ap (λ (q : Datum × Forms). q.1) pair in
-    (p, rw (first, second) refl)
+    let pair : (b, is) ≡ (c, es) = cc in (p, ap (λ (q : Datum × Forms). list p (more q.0 q.1) proper) pair)
 clause_shape f c es h = cc
 
 pub clause_parts : (f : Datum) {c : Datum} {es : Forms} → clause_in f ≡ Some (c, es) → IsFineClause f → (weight c + weights es + 2 ≤ weight f) × (IsFine c × AreFine es)

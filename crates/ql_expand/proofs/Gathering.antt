@@ -74,6 +74,8 @@ body_turns fs xs x now cs c b e f t p y z =
 
 -- ---- bindings
 
+pub ruleset of_bodies = (body_none, body_alone, body_turns)
+
 abbrev pub with_bounds : List Bound → Bounds → Bounds
 with_bounds bs ds = joined_bounds (bounds_of bs) ds
 

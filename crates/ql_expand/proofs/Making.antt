@@ -273,3 +273,11 @@ module _ {d : Bool} {at o w : ℕ} where
 
   pub cond_made : {r : Operator} {fs cs : Forms} {k : Core} → Fits r fs (parts.clauses cs) → operator_of w ≡ r → Clauses at cs k → Expands d (applied at o w fs) k
   cond_made fits_clauses e x = x d o w e
+
+pub no_definition : {r : Operator} {fs es : Forms} {s : parts.Split} {o v : ℕ} {ps : Form} → Fits r fs s → s ≡ parts.definition o v ps es → ⊥
+no_definition fits_datum e = cc
+no_definition _ e = cc
+
+pub ruleset of_parts = (quote_made, let_made, qlet_made, lambda_made, qlambda_made, setq_made, cond_made, no_definition)
+
+pub ruleset of_ways = (sequence_made, printed_made, applied_made, before_made, each_made)

@@ -4,7 +4,7 @@ use Rattle.std.specs.Prelude.{true, false}
 use Rattle.std.proofs.lemmas.List.{append-nil}
 use Rattle.std.proofs.lemmas.Option.{slice_get_within}
 use Rattle.ql_base.specs.Names.{BeginsWithReserved}
-use Rattle.ql_forms.specs.Form.{Form as Datum, Forms, none, more, atom, list, symbol, integer, operation_in}
+use Rattle.ql_forms.specs.Form.{Form as Datum, Forms, none, more, atom, list, symbol, integer, operation_in, place_of}
 use Rattle.ql_forms.specs.View.{form_of, forms_of}
 use Rattle.ql_forms.specs.declared.form.Form.{Form}
 use Rattle.ql_expand.specs.Building.{IsFine, IsFineSplit}
@@ -22,7 +22,8 @@ use Rattle.ql_expand.specs.declared.operator.Reading.{Reading}
 use Rattle.ql_expand.specs.declared.operator.Reading.TheVariants.{Global, Definition}
 use Rattle.ql_expand.specs.declared.top.Top.{Top}
 use Rattle.ql_expand.specs.declared.top.Tops.{Tops}
-use Rattle.ql_expand.proofs.Fine.{neither, undeep, fine_split, at_place}
+use Rattle.ql_expand.proofs.Fine.{neither, fine_operation, at_place}
+use Rattle.ql_expand.proofs.Built.{operation_shape}
 use Rattle.ql_expand.proofs.Splits.{form_is}
 use Rattle.ql_expand.proofs.Counts.{rest, nothing_left}
 use Rattle.ql_expand.proofs.Gathering.{cores_alone}
@@ -58,20 +59,15 @@ assignment_is (more (atom p (symbol w)) (more g none)) o v f e = cc
 assignment_is fs o v f e = cc
 
 -- the parts of a top form without a fault
-fine_parts : (f : Datum) (o : (ℕ × ℕ) × Forms) → IsFineTop f → operation_in f ≡ Some o → IsFineSplit (parts_by (reading_of (operator_of o.0.1)) o.1)
-fine_parts (atom at a) o h e = cc
-fine_parts (list at fs t) o (names, h) e =
-    let r = reading_of (operator_of o.0.1) in
-    let all : operation_faults names true 1 at (operation_in (list at fs t)) ≡ [] =
-    undeep 1 at (operation_faults names true 1 at (operation_in (list at fs t))) (sym (form_is names true 1 (list at fs t)) ∙ h) in
-    let read : top_faults true at r ++ split_faults names (level_below r 1 o.1) at (parts_by r o.1) ≡ [] = ap (operation_faults names true 1 at) (sym e) ∙ all in
-    fine_split names (level_below r 1 o.1) at (parts_by r o.1) (neither (top_faults true at r) (split_faults names (level_below r 1 o.1) at (parts_by r o.1)) read).1
+fine_parts : (f : Datum) (p w : ℕ) (fs : Forms) → IsFineTop f → operation_in f ≡ Some ((p, w), fs) → IsFineSplit (parts_by (reading_of (operator_of w)) fs)
+fine_parts f p w fs (names, h) e =
+    (fine_operation names true 1 (place_of f) p w fs (subst (λ (g : Datum). form_faults names true 1 g ≡ []) (operation_shape f p w fs e) h)).1
 
 pub fine_definition : (f : Datum) (p w : ℕ) (fs : Forms) → IsFineTop f → operation_in f ≡ Some ((p, w), fs) → Defun ≡ operator_of w → IsFineSplit (definition_by fs)
-fine_definition f p w fs h e k = subst (λ r. IsFineSplit (parts_by (reading_of r) fs)) (sym k) (fine_parts f ((p, w), fs) h e)
+fine_definition f p w fs h e k = subst (λ r. IsFineSplit (parts_by (reading_of r) fs)) (sym k) (fine_parts f p w fs h e)
 
 pub fine_global : (f : Datum) (p w : ℕ) (fs : Forms) → IsFineTop f → operation_in f ≡ Some ((p, w), fs) → Defvar ≡ operator_of w → IsFineSplit (assignment_by fs)
-fine_global f p w fs h e k = subst (λ r. IsFineSplit (parts_by (reading_of r) fs)) (sym k) (fine_parts f ((p, w), fs) h e)
+fine_global f p w fs h e k = subst (λ r. IsFineSplit (parts_by (reading_of r) fs)) (sym k) (fine_parts f p w fs h e)
 
 -- An operator that may stand inside may stand at the top.
 same_place : (r : Reading) (at : ℕ) → top_faults false 0 r ≡ [] → top_faults false at r ≡ top_faults true at r

@@ -69,7 +69,7 @@ fn fitting<'a>(at: Offset, head: Symbol, parts: &'a [Form]) -> Parts<'a>
 
 // A list with this operator.
 #[cycle(build)]
-#[tactic(auto, using(crate::proofs::Making::quote_made, crate::proofs::Making::let_made, crate::proofs::Making::qlet_made, crate::proofs::Making::lambda_made, crate::proofs::Making::qlambda_made, crate::proofs::Making::setq_made, crate::proofs::Making::cond_made, crate::proofs::Built::no_definition))]
+#[tactic(auto, using(crate::proofs::Making::of_parts))]
 fn applied<'a>(make: Maker, dropped: bool, head: Symbol, parts: &'a [Form]) -> Made<'a>
     requires { IsFine (applied make.at.0 head.at.0 head.number (forms_of parts.now)) }
     ensures { IfOk result (λ c. Expands dropped (applied make.at.0 head.at.0 head.number (forms_of parts.now)) (core_of c)) }
@@ -114,7 +114,7 @@ fn applied<'a>(make: Maker, dropped: bool, head: Symbol, parts: &'a [Form]) -> M
 
 // The body of a form.
 #[cycle(build)]
-#[tactic(auto, using(crate::proofs::Gathering::body_none, crate::proofs::Gathering::body_alone, crate::proofs::Gathering::body_turns))]
+#[tactic(auto, using(crate::proofs::Gathering::of_bodies))]
 pub fn body<'a>(make: Maker, forms: &'a [Form]) -> Made<'a>
     requires { AreFine (forms_of forms.now) }
     ensures { IfOk result (λ c. Body make.at.0 (forms_of forms.now) (core_of c)) }
@@ -272,7 +272,7 @@ fn split_first(forms: &[Form]) -> (&Form, &[Form])
 
 // As many forms as the operator wants.
 #[cycle(build)]
-#[tactic(auto, using(crate::proofs::Making::sequence_made, crate::proofs::Making::printed_made, crate::proofs::Making::applied_made, crate::proofs::Making::before_made, crate::proofs::Making::each_made))]
+#[tactic(auto, using(crate::proofs::Making::of_ways))]
 fn of_forms<'a>(
     make: Maker,
     dropped: bool,
