@@ -72,9 +72,9 @@ body_turns fs xs x now cs c b e f t p y z =
     let many : 2 ≤ count (forms_of fs) = omega (arith, as_many fs, ap length e, length-append xs (x ∷ []), not_empty xs b f t) in
     let turned : InTurn (forms_of fs) (cores_of now) = rw (made, e, appended_is xs x) (turns y z) in as_turns turned many
 
--- ---- bindings
-
 pub ruleset of_bodies = (body_none, body_alone, body_turns)
+
+-- ---- bindings
 
 abbrev pub with_bounds : List Bound → Bounds → Bounds
 with_bounds bs ds = joined_bounds (bounds_of bs) ds
