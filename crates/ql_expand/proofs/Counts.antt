@@ -1,7 +1,8 @@
 -- Slices of forms.
-use Rattle.std.proofs.Common.{◌≡◌, ℕ, suc, ◌+◌, ◌<◌, List, [], ◌∷◌, length, get_or, drop, refl, sym, ap, ◌∙◌, arith, Option, add-one, drop-cons}
+use Rattle.std.proofs.Common.{◌≡◌, ℕ, suc, ◌+◌, ◌<◌, ◌≤◌, List, [], ◌∷◌, length, get_or, drop, refl, sym, ap, ◌∙◌, arith, Option, add-one, drop-cons}
+use Rattle.std.proofs.lemmas.List.{drop_all}
 use Rattle.ql_base.specs.declared.numbers.Offset.{Offset}
-use Rattle.ql_forms.specs.Form.{Form as Datum, count, more, list}
+use Rattle.ql_forms.specs.Form.{Form as Datum, count, none, more, list}
 use Rattle.ql_forms.specs.View.{form_of, forms_of, form_step, tail_of}
 use Rattle.ql_forms.specs.declared.form.Atom.{Atom}
 use Rattle.ql_forms.specs.declared.form.Form.{Form, fold-roll-Form}
@@ -23,3 +24,6 @@ item_count_is f at fs t e = ap item_count (ap form_of e ∙ list_seen at fs t) �
 -- the forms from a place on
 pub rest : (fs : List Form) (i : ℕ) (f : Form) → i < length fs → f ≡ get_or fs i f → forms_of (drop i fs) ≡ more (form_of f) (forms_of (drop (i + 1) fs))
 rest fs i f h e = rw (add-one, drop-cons fs i f) (ap (λ g. more (form_of g) (forms_of (drop (suc i) fs))) (sym e))
+
+pub nothing_left : (fs : List Form) (i : ℕ) → length fs ≤ i → forms_of (drop i fs) ≡ none
+nothing_left fs i h = ap (λ (gs : List Form). forms_of gs) (drop_all i fs h)

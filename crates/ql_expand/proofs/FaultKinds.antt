@@ -7,7 +7,7 @@ use Rattle.ql_base.specs.declared.refusal.FaultKind.TheVariants.{BadTop, Reserve
 use Rattle.ql_forms.specs.Form.{Form, Forms, none, more, atom, list, proper, symbol, is_nil, place_of, count}
 use Rattle.ql_forms.specs.Numbered.{letters}
 use Rattle.ql_expand.specs.Core.{Binder, binder, named, hidden}
-use Rattle.ql_expand.specs.ExpandFault.{misshapen, under_sugar, parts_of_bindings, fits, variable_faults, function_faults, is_marked, parameter_faults, binder_faults, shape_of_parameters, parameters_faults, unless_deep, where_fits, unless_top, form_faults, forms_faults, assignment_faults, bind_faults, binds_faults, binding_faults, form_and_binding_faults, lambda_faults, form_and_lambda_faults, definition_faults, clause_faults, clauses_faults, source_faults, expand_fault}
+use Rattle.ql_expand.specs.ExpandFault.{misshapen, under_sugar, parts_of_bindings, fits, variable_faults, function_faults, is_marked, binder_faults, shape_of_parameters, parameters_faults, unless_deep, where_fits, unless_top, form_faults, forms_faults, assignment_faults, bind_faults, binds_faults, binding_faults, form_and_binding_faults, lambda_faults, form_and_lambda_faults, definition_faults, clause_faults, clauses_faults, source_faults, expand_fault}
 use Rattle.ql_expand.specs.Expands.{parameters_in}
 use Rattle.ql_expand.specs.Operator.{operator_of, reading_of, is_constant, is_call}
 use Rattle.ql_expand.specs.declared.operator.Reading.{Reading}
@@ -76,8 +76,7 @@ function_kinds at w = either (is_call (operator_of w)) [] (fault ReservedName at
 
 binder_kinds : (names : List (List ℕ)) (bs : List Binder) → OfForms (binder_faults names bs)
 binder_kinds names [] = tt
-binder_kinds names (binder at (named w) ∷ bs) =
-    joined (parameter_faults names at w) (binder_faults names bs)
+binder_kinds names (binder at (named w) ∷ bs) = joined _ _
     (either (is_marked (letters names w)) (misshapen at) (variable_faults at w) (wrong at) (variable_kinds at w)) (binder_kinds names bs)
 binder_kinds names (binder at (hidden n) ∷ bs) = binder_kinds names bs
 
@@ -91,7 +90,7 @@ parameters_kinds names f = by (parameters_in f)
 -- parameters and a body
 body_kinds : (names : List (List ℕ)) (n : ℕ) (ps : Form) (es : Forms) → OfForms (forms_faults names n es)
     → OfForms (parameters_faults names ps ++ forms_faults names n es)
-body_kinds names n ps es h = joined (parameters_faults names ps) (forms_faults names n es) (parameters_kinds names ps) h
+body_kinds names n ps es h = joined _ _ (parameters_kinds names ps) h
 
 -- what is known of the parts of a form, at each level
 record Known (names : List (List ℕ)) (at n : ℕ) (parts : Forms) : Type 0 where
@@ -140,37 +139,32 @@ mutual
 
   forms_kinds : (names : List (List ℕ)) (n : ℕ) (fs : Forms) → OfForms (forms_faults names n fs)
   forms_kinds names n none = tt
-  forms_kinds names n (more f fs) = joined (form_faults names false n f) (forms_faults names n fs) (form_kinds names false n f) (forms_kinds names n fs)
+  forms_kinds names n (more f fs) = joined _ _ (form_kinds names false n f) (forms_kinds names n fs)
 
   assignment_kinds : (names : List (List ℕ)) (n at : ℕ) (fs : Forms) → OfForms (assignment_faults names n at fs)
-  assignment_kinds names n at (more (atom o (symbol w)) (more e none)) =
-      joined (variable_faults o w) (form_faults names false n e) (variable_kinds o w) (form_kinds names false n e)
+  assignment_kinds names n at (more (atom o (symbol w)) (more e none)) = joined _ _ (variable_kinds o w) (form_kinds names false n e)
   assignment_kinds names n at parts = wrong at
 
   bind_kinds : (names : List (List ℕ)) (n : ℕ) (f : Form) → OfForms (bind_faults names n f)
   bind_kinds names n (atom at (symbol w)) = deep n at (variable_faults at w) (variable_kinds at w)
   bind_kinds names n (list at (more (atom o (symbol w)) none) proper) = deep n at (variable_faults o w) (variable_kinds o w)
-  bind_kinds names n (list at (more (atom o (symbol w)) (more e none)) proper) =
-      deep n at (variable_faults o w ++ form_faults names false (n + 1) e)
-      (joined (variable_faults o w) (form_faults names false (n + 1) e) (variable_kinds o w) (form_kinds names false (n + 1) e))
+  bind_kinds names n (list at (more (atom o (symbol w)) (more e none)) proper) = deep n at (variable_faults o w ++ form_faults names false (n + 1) e)
+      (joined _ _ (variable_kinds o w) (form_kinds names false (n + 1) e))
   bind_kinds names n f = wrong (place_of f)
 
   binds_kinds : (names : List (List ℕ)) (n : ℕ) (fs : Forms) → OfForms (binds_faults names n fs)
   binds_kinds names n none = tt
-  binds_kinds names n (more f fs) = joined (bind_faults names n f) (binds_faults names n fs) (bind_kinds names n f) (binds_kinds names n fs)
+  binds_kinds names n (more f fs) = joined _ _ (bind_kinds names n f) (binds_kinds names n fs)
 
   binding_kinds : (names : List (List ℕ)) (n at : ℕ) (fs : Forms) → OfForms (binding_faults names n at fs)
-  binding_kinds names n at (more (list b bs proper) es) =
-      joined (binds_faults names n bs) (forms_faults names n es) (binds_kinds names n bs) (forms_kinds names n es)
+  binding_kinds names n at (more (list b bs proper) es) = joined _ _ (binds_kinds names n bs) (forms_kinds names n es)
   binding_kinds names n at (more (atom b a) es) = fitting (is_nil a) at (forms_faults names n es) (forms_kinds names n es)
   binding_kinds names n at parts = wrong at
 
   form_and_binding_kinds : (names : List (List ℕ)) (n at : ℕ) (fs : Forms) → OfForms (form_and_binding_faults names n at fs)
-  form_and_binding_kinds names n at (more e (more (list b bs proper) es)) =
-      joined (form_faults names false n e) (binds_faults names n bs ++ forms_faults names n es) (form_kinds names false n e)
-      (joined (binds_faults names n bs) (forms_faults names n es) (binds_kinds names n bs) (forms_kinds names n es))
+  form_and_binding_kinds names n at (more e (more (list b bs proper) es)) = joined _ _ (form_kinds names false n e) (joined _ _ (binds_kinds names n bs) (forms_kinds names n es))
   form_and_binding_kinds names n at (more e (more (atom b a) es)) = fitting (is_nil a) at (form_faults names false n e ++ forms_faults names n es)
-      (joined (form_faults names false n e) (forms_faults names n es) (form_kinds names false n e) (forms_kinds names n es))
+      (joined _ _ (form_kinds names false n e) (forms_kinds names n es))
   form_and_binding_kinds names n at parts = wrong at
 
   lambda_kinds : (names : List (List ℕ)) (n at : ℕ) (fs : Forms) → OfForms (lambda_faults names n at fs)
@@ -178,30 +172,25 @@ mutual
   lambda_kinds names n at parts = wrong at
 
   form_and_lambda_kinds : (names : List (List ℕ)) (n at : ℕ) (fs : Forms) → OfForms (form_and_lambda_faults names n at fs)
-  form_and_lambda_kinds names n at (more e (more ps es)) =
-      joined (form_faults names false n e) (parameters_faults names ps ++ forms_faults names n es) (form_kinds names false n e)
-      (body_kinds names n ps es (forms_kinds names n es))
+  form_and_lambda_kinds names n at (more e (more ps es)) = joined _ _ (form_kinds names false n e) (body_kinds names n ps es (forms_kinds names n es))
   form_and_lambda_kinds names n at parts = wrong at
 
   definition_kinds : (names : List (List ℕ)) (n at : ℕ) (fs : Forms) → OfForms (definition_faults names n at fs)
-  definition_kinds names n at (more (atom o (symbol w)) (more ps es)) =
-      joined (function_faults o w) (parameters_faults names ps ++ forms_faults names n es) (function_kinds o w)
-      (body_kinds names n ps es (forms_kinds names n es))
+  definition_kinds names n at (more (atom o (symbol w)) (more ps es)) = joined _ _ (function_kinds o w) (body_kinds names n ps es (forms_kinds names n es))
   definition_kinds names n at parts = wrong at
 
   clause_kinds : (names : List (List ℕ)) (n : ℕ) (f : Form) → OfForms (clause_faults names n f)
-  clause_kinds names n (list at (more c es) proper) =
-      deep n at (form_faults names false (n + 1) c ++ forms_faults names (n + 1) es)
-      (joined (form_faults names false (n + 1) c) (forms_faults names (n + 1) es) (form_kinds names false (n + 1) c) (forms_kinds names (n + 1) es))
+  clause_kinds names n (list at (more c es) proper) = deep n at (form_faults names false (n + 1) c ++ forms_faults names (n + 1) es)
+      (joined _ _ (form_kinds names false (n + 1) c) (forms_kinds names (n + 1) es))
   clause_kinds names n f = wrong (place_of f)
 
   clauses_kinds : (names : List (List ℕ)) (n : ℕ) (fs : Forms) → OfForms (clauses_faults names n fs)
   clauses_kinds names n none = tt
-  clauses_kinds names n (more f fs) = joined (clause_faults names n f) (clauses_faults names n fs) (clause_kinds names n f) (clauses_kinds names n fs)
+  clauses_kinds names n (more f fs) = joined _ _ (clause_kinds names n f) (clauses_kinds names n fs)
 
 source_kinds : (names : List (List ℕ)) (fs : Forms) → OfForms (source_faults names fs)
 source_kinds names none = tt
-source_kinds names (more f fs) = joined (form_faults names true 1 f) (source_faults names fs) (form_kinds names true 1 f) (source_kinds names fs)
+source_kinds names (more f fs) = joined _ _ (form_kinds names true 1 f) (source_kinds names fs)
 
 pub kinds_of_forms : (names : List (List ℕ)) (fs : Forms) (at kind : ℕ) → expand_fault names fs ≡ Some (at, kind) → (9 ≤ kind) × (kind ≤ 11)
 kinds_of_forms names fs at kind e = told_kind (source_faults names fs) at kind (source_kinds names fs) e

@@ -3,13 +3,14 @@ pub mod Binders
 pub mod Built
 pub mod Counts
 pub mod Examples
-mod FaultKinds
+pub mod FaultKinds
 pub mod Fine
 pub mod Gathering
+pub mod Loops
 pub mod Making
-mod Numbers
-mod Primitives
+pub mod Numbers
+pub mod Primitives
 pub mod Splits
 mod TopForms
-mod Unique
+pub mod Unique
 pub mod Weights

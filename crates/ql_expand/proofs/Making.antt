@@ -1,92 +1,47 @@
 -- What forms expand to whose parts are expanded.
-use Rattle.std.proofs.Common.{◌≡◌, ℕ, ◌+◌, ◌≤◌, Option, Some, None, refl, ap, ◌∙◌, arith, inl, inr}
-use Rattle.std.specs.Prelude.{Bool, true, false, nat_le, if◌then◌else◌, ◌⊎◌}
+use Rattle.std.proofs.Common.{◌≡◌, ℕ, ◌+◌, ◌≤◌, List, Option, Some, None, refl, sym, ap, ◌∙◌, subst, arith}
+use Rattle.std.specs.Prelude.{Bool, true, false, nat_le, ◌==◌, ◌&&◌, if◌then◌else◌}
+use Rattle.std.proofs.lemmas.Bool.Decides.{nat_tests}
 use Rattle.std.proofs.lemmas.Bool.{leb-true, and_parts}
 use Rattle.ql_base.specs.Reserved.{number}
+use Rattle.ql_base.specs.declared.reserved.Reserved.{Reserved}
 use Rattle.ql_base.specs.declared.reserved.Reserved.TheVariants.{Null, Greater, Less, Cons, Nil, True, If as IfWord, And as AndWord, Or as OrWord, Progn as PrognWord, Cond as CondWord, Let as LetWord, LetStar as LetStarWord, List as ListWord}
-use Rattle.ql_forms.specs.Form.{Form, Forms, none, more, atom, list, proper, dotted, symbol, integer, Atom, items_of, count, is_nil}
-use Rattle.ql_expand.specs.Assembly.{atom_core, nil_core, number_core, with_two, either, linked, chain, all_linked, folded, operands, nested, before_body, of_each, way_of}
-use Rattle.ql_expand.specs.Building.{Fits, fits_datum, fits_forms, fits_assignment, fits_let, fits_let_star, fits_qlet, fits_lambda, fits_qlambda, fits_clauses, allows, Becomes, EachOf, none_of, one_of}
-use Rattle.ql_expand.specs.Core.{named, Binder, Core, core, Cores, no_cores, and_core, Bounds, no_bounds, and_bound, constant, setq, conditional, progn, binding, variable, print, funcall, lambda, qlet, qlambda}
+use Rattle.ql_forms.specs.Form.{Form, Forms, none, more, atom, list, proper, dotted, symbol, integer, Atom, items_of, place_of, count, is_nil}
+use Rattle.ql_expand.specs.Assembly.{atom_core, nil_core, number_core, with_two, either, chain, all_linked, folded, operands, nested, let_core, before_body, of_each, way_of}
+use Rattle.ql_expand.specs.Building.{Fits, fits_datum, fits_assignment, fits_let, fits_let_star, fits_qlet, fits_lambda, fits_qlambda, fits_clauses, allows, passes, Clauses, EachOf, none_of, one_of}
+use Rattle.ql_expand.specs.Core.{named, Binder, Core, core, Cores, no_cores, and_core, Bounds, constant, setq, conditional, variable, print, funcall, throw, protect, lambda, qlet, qlambda}
 use Rattle.ql_expand.specs.ExpandFault.{fits}
-use Rattle.ql_expand.specs.Expands.{applied, added, nil_at, one, two, parameters_in, no_terms, no_factors, one_term, one_factor, negative, more_operands, not_null, at_most, at_least, list_none, list_more, and_none, and_one, and_more, or_none, or_one, when, unless, cond_none, cond_test, cond_forms, let_star_none, let_star_one, let_star_more, Expands, sugar, or_more, integer_alone, constant_word, quoted, variable_word, assigned, if_then, if_else, sequence, bound, one_operand, two_operands, printed, called, value_called, closed, bound_apart, closed_apart, caught, caught_all, thrown, protected, Body, no_forms, one_form, forms, InTurn, Each, none_left, one_more, Bind, Binds, none_bound, one_bound}
-use Rattle.ql_expand.specs.Operator.{operator_of, reading_of, takes_two, is_arithmetic, is_constant}
+use Rattle.ql_expand.specs.Expands.{applied, nil_at, one, two, parameters_in, no_terms, no_factors, one_term, one_factor, negative, more_operands, not_null, at_most, at_least, list_none, list_more, and_none, and_one, and_more, or_none, or_one, when, unless, cond_none, cond_test, cond_forms, let_star_none, let_star_one, let_star_more, Expands, sugar, or_more, integer_alone, constant_word, quoted, variable_word, assigned, if_then, if_else, sequence, bound, one_operand, two_operands, printed, called, value_called, closed, bound_apart, closed_apart, caught, caught_all, thrown, protected, Body, no_forms, one_form, forms, Each, none_left, one_more, Binds, none_bound, one_bound}
+use Rattle.ql_expand.specs.Operator.{operator_of, reserved_operator, reading_of, takes_two, is_arithmetic, is_constant}
 use Rattle.ql_expand.specs.Parts as parts
 use Rattle.ql_expand.specs.Parts.{clause_in}
+use Rattle.ql_expand.proofs.Fine.{clause_shape}
 use Rattle.ql_expand.specs.declared.assemble.Way.TheVariants as ways
 use Rattle.ql_expand.specs.declared.operator.Operator.{Operator}
-use Rattle.ql_expand.specs.declared.operator.Operator.TheVariants.{Constant, Quote, Setq, If, Progn, Let, Catch, Qcatch, Throw, Protect, Funcall, Print, Unary, Binary, Sum, Difference, Product, Not, AtMost, AtLeast, Cond, And, Or, When, Unless, LetStar, List as ListOf, Call}
+use Rattle.ql_expand.specs.declared.operator.Operator.TheVariants.{If, Progn, Catch, Qcatch, Throw, Protect, Funcall, Print, Unary, Binary, Sum, Difference, Product, Not, AtMost, AtLeast, And, Or, When, Unless, LetStar, List as ListOf, Call}
 
 -- ---- the words that sugar adds
 
-nil_is : operator_of (number Nil) ≡ Constant
+pub word_is : (r : Reserved) → operator_of (number r) ≡ reserved_operator r
 unfolding operator_of
-nil_is = refl
-
-true_is : operator_of (number True) ≡ Constant
-unfolding operator_of
-true_is = refl
-
-null_is : operator_of (number Null) ≡ Unary
-unfolding operator_of
-null_is = refl
-
-greater_is : operator_of (number Greater) ≡ Binary
-unfolding operator_of
-greater_is = refl
-
-less_is : operator_of (number Less) ≡ Binary
-unfolding operator_of
-less_is = refl
-
-cons_is : operator_of (number Cons) ≡ Binary
-unfolding operator_of
-cons_is = refl
-
-list_is : operator_of (number ListWord) ≡ ListOf
-unfolding operator_of
-list_is = refl
-
-if_is : operator_of (number IfWord) ≡ If
-unfolding operator_of
-if_is = refl
-
-and_is : operator_of (number AndWord) ≡ And
-unfolding operator_of
-and_is = refl
-
-or_is : operator_of (number OrWord) ≡ Or
-unfolding operator_of
-or_is = refl
-
-progn_is : operator_of (number PrognWord) ≡ Progn
-unfolding operator_of
-progn_is = refl
-
-pub cond_is : operator_of (number CondWord) ≡ Cond
-unfolding operator_of
-cond_is = refl
-
-let_is : operator_of (number LetWord) ≡ Let
-unfolding operator_of
-let_is = refl
-
-let_star_is : operator_of (number LetStarWord) ≡ LetStar
-unfolding operator_of
-let_star_is = refl
+word_is Nil = refl
+word_is _ = refl
 
 -- ---- atoms
 
 nil_made : {d : Bool} (at : ℕ) → Expands d (nil_at at) (nil_core at)
-nil_made at = constant_word (ap is_constant nil_is)
+nil_made at = constant_word (ap is_constant (word_is Nil))
 
-pub atom_made : (d : Bool) (at : ℕ) (a : Atom) → Expands d (atom at a) (atom_core at a)
+atom_made : (d : Bool) (at : ℕ) (a : Atom) → Expands d (atom at a) (atom_core at a)
 atom_made d at (integer z) = integer_alone
 atom_made d at (symbol w) = by_word (is_constant (operator_of w)) refl
   where
     by_word : (b : Bool) → is_constant (operator_of w) ≡ b → Expands d (atom at (symbol w)) (core at (if b then constant (atom at (symbol w)) else variable (named w)))
     by_word true e = constant_word e
     by_word false e = variable_word e
+
+pub atom_seen : (d : Bool) (f : Form) (a : Atom) (at : ℕ) (k : Core) → f ≡ atom (place_of f) a → at ≡ place_of f → k ≡ atom_core at a → Expands d f k
+atom_seen d f a at k e p q = rw q (subst (λ (g : Form). Expands d g (atom_core at a)) (sym (e ∙ ap (λ n. atom n a) (sym p))) (atom_made d at a))
 
 -- ---- how many parts there are
 
@@ -141,48 +96,52 @@ operands_made n h zero single (one_more x (one_more y ys)) = folded_made h x y y
 
 list_made : {d : Bool} {at o w : ℕ} {fs : Forms} {cs : Cores} → operator_of w ≡ ListOf → Each fs cs → Expands d (applied at o w fs) (chain ListOf at cs (nil_core at))
 list_made {at = at} e none_left = sugar (list_none e) (nil_made at)
-list_made e (one_more x xs) = sugar (list_more e) (two_operands (ap takes_two cons_is) x (list_made list_is xs))
+list_made e (one_more x xs) = sugar (list_more e) (two_operands (ap takes_two (word_is Cons)) x (list_made (word_is ListWord) xs))
 
 -- Of a single form the value is dropped where the whole one's is.
 and_made : {d : Bool} {at o w : ℕ} {fs : Forms} {cs : Cores} → operator_of w ≡ And → (count fs ≡ 1 → d ≡ false) → Each fs cs → Expands d (applied at o w fs) (all_linked And at cs)
-and_made e k none_left = sugar (and_none e) (constant_word (ap is_constant true_is))
+and_made e k none_left = sugar (and_none e) (constant_word (ap is_constant (word_is True)))
 and_made e k (one_more x none_left) = rw (k refl) (sugar (and_one e) x)
-and_made {at = at} e k (one_more x (one_more y ys)) = sugar (and_more e) (if_else if_is x (and_made and_is (λ _. refl) (one_more y ys)) (nil_made at))
+and_made {at = at} e k (one_more x (one_more y ys)) = sugar (and_more e) (if_else (word_is IfWord) x (and_made (word_is AndWord) (λ _. refl) (one_more y ys)) (nil_made at))
 
 or_made : {d : Bool} {at o w : ℕ} {fs : Forms} {cs : Cores} → operator_of w ≡ Or → (count fs ≡ 1 → d ≡ false) → Each fs cs → Expands d (applied at o w fs) (all_linked Or at cs)
 or_made {at = at} e k none_left = sugar (or_none e) (nil_made at)
 or_made e k (one_more x none_left) = rw (k refl) (sugar (or_one e) x)
-or_made e k (one_more x (one_more y ys)) = or_more e x (or_made or_is (λ _. refl) (one_more y ys))
+or_made e k (one_more x (one_more y ys)) = or_more e x (or_made (word_is OrWord) (λ _. refl) (one_more y ys))
 
-pub linked_made : (d : Bool) (at o w : ℕ) (r : Operator) → operator_of w ≡ r → way_of r ≡ ways.Linked → (fs : Forms) (cs : Cores) → (count fs ≡ 1 → d ≡ false) → Each fs cs
-    → Expands d (applied at o w fs) (of_each r at o w cs)
-linked_made d at o w And e h fs cs k x = and_made e k x
-linked_made d at o w Or e h fs cs k x = or_made e k x
-linked_made d at o w _ e h fs cs k x = cc
+not_one : (n : ℕ) → (n + 1 + 1 == 1) ≡ false
+not_one n = grind (arith, nat_tests)
 
-pub alone_made : (d : Bool) (at o w : ℕ) (r : Operator) → operator_of w ≡ r → way_of r ≡ ways.Linked → (f : Form) (c : Core) → Expands d f c → Expands d (applied at o w (one f)) c
-alone_made d at o w And e h f c x = sugar (and_one e) x
-alone_made d at o w Or e h f c x = sugar (or_one e) x
-alone_made d at o w _ e h f c x = cc
+-- A single form of `and` or `or` is dropped where the whole is, and of more forms each is used.
+linked_made : {d : Bool} {at o w : ℕ} {fs : Forms} {cs : Cores} (build : Cores → Core) → ((count fs ≡ 1 → d ≡ false) → Each fs cs → Expands d (applied at o w fs) (build cs))
+    → ((f : Form) (c : Core) → Expands d f c → Expands d (applied at o w (one f)) (build (and_core c no_cores))) → EachOf ((count fs == 1) && d) fs cs
+    → Expands d (applied at o w fs) (build cs)
+linked_made build all single none_of = all (λ i. absurd (omega arith)) none_left
+linked_made build all single (one_of {e = f} {c = c} x none_of) = single f c x
+linked_made {d = d} build all single (one_of {e = f} {c = c} x (one_of {e = g} {fs = fs} {c = i} {cs = cs} y ys)) =
+    all (λ j. absurd (omega arith))
+    (each_used (subst (λ b. EachOf (b && d) (more f (more g fs)) (and_core c (and_core i cs))) (not_one (count fs)) (one_of x (one_of y ys))))
 
-pub each_made : (d : Bool) (at o w : ℕ) (r : Operator) → operator_of w ≡ r → way_of r ≡ ways.Each → (fs : Forms) (cs : Cores) → allows (reading_of r) (count fs) ≡ true → Each fs cs
-    → Expands d (applied at o w fs) (of_each r at o w cs)
-each_made d at o w Unary e h fs cs k x = by_one d at o w (of_each Unary at o w) (λ f c. one_operand e) k x
-each_made d at o w Not e h fs cs k x = by_one d at o w (of_each Not at o w) (λ f c x. sugar (not_null e) (one_operand null_is x)) k x
-each_made d at o w Binary e h fs cs k x = by_two d at o w (of_each Binary at o w) (λ f g c i. two_operands (ap takes_two e)) k x
+pub each_made : (d : Bool) (at o w : ℕ) (r : Operator) → operator_of w ≡ r → way_of r ≡ ways.Each → (fs : Forms) (cs : Cores) → allows (reading_of r) (count fs) ≡ true
+    → EachOf (passes r d (count fs)) fs cs → Expands d (applied at o w fs) (of_each r at o w cs)
+each_made d at o w Unary e h fs cs k x = by_one d at o w (of_each Unary at o w) (λ f c. one_operand e) k (each_used x)
+each_made d at o w Not e h fs cs k x = by_one d at o w (of_each Not at o w) (λ f c y. sugar (not_null e) (one_operand (word_is Null) y)) k (each_used x)
+each_made d at o w Binary e h fs cs k x = by_two d at o w (of_each Binary at o w) (λ f g c i. two_operands (ap takes_two e)) k (each_used x)
 each_made d at o w AtMost e h fs cs k x =
-    by_two d at o w (of_each AtMost at o w) (λ f g c i x y. sugar (at_most e) (one_operand null_is (two_operands (ap takes_two greater_is) x y))) k x
+    by_two d at o w (of_each AtMost at o w) (λ f g c i y z. sugar (at_most e) (one_operand (word_is Null) (two_operands (ap takes_two (word_is Greater)) y z))) k (each_used x)
 each_made d at o w AtLeast e h fs cs k x =
-    by_two d at o w (of_each AtLeast at o w) (λ f g c i x y. sugar (at_least e) (one_operand null_is (two_operands (ap takes_two less_is) x y))) k x
+    by_two d at o w (of_each AtLeast at o w) (λ f g c i y z. sugar (at_least e) (one_operand (word_is Null) (two_operands (ap takes_two (word_is Less)) y z))) k (each_used x)
 each_made d at o w Sum e h fs cs k x =
-    operands_made 0 (ap is_arithmetic e) (λ _. sugar (no_terms e) integer_alone) (λ a c y. sugar (one_term e) (two_operands (ap takes_two e) integer_alone y)) x
+    operands_made 0 (ap is_arithmetic e) (λ _. sugar (no_terms e) integer_alone) (λ a c y. sugar (one_term e) (two_operands (ap takes_two e) integer_alone y)) (each_used x)
 each_made d at o w Product e h fs cs k x =
-    operands_made 1 (ap is_arithmetic e) (λ _. sugar (no_factors e) integer_alone) (λ a c y. sugar (one_factor e) (two_operands (ap takes_two e) integer_alone y)) x
+    operands_made 1 (ap is_arithmetic e) (λ _. sugar (no_factors e) integer_alone) (λ a c y. sugar (one_factor e) (two_operands (ap takes_two e) integer_alone y)) (each_used x)
 each_made d at o w Difference e h fs cs k x =
     let some : 1 ≤ count fs = enough fs 1 None k in
-    operands_made 0 (ap is_arithmetic e) (λ n. absurd (omega (arith, n))) (λ a c y. sugar (negative e) (two_operands (ap takes_two e) integer_alone y)) x
-each_made d at o w ListOf e h fs cs k x = list_made e x
-each_made d at o w Call e h fs cs k x = called e x
+    operands_made 0 (ap is_arithmetic e) (λ n. absurd (omega (arith, n))) (λ a c y. sugar (negative e) (two_operands (ap takes_two e) integer_alone y)) (each_used x)
+each_made d at o w And e h fs cs k x = linked_made (all_linked And at) (and_made e) (λ f c. sugar (and_one e)) x
+each_made d at o w Or e h fs cs k x = linked_made (all_linked Or at) (or_made e) (λ f c. sugar (or_one e)) x
+each_made d at o w ListOf e h fs cs k x = list_made e (each_used x)
+each_made d at o w Call e h fs cs k x = called e (each_used x)
 each_made d at o w _ e h fs cs k x = cc
 
 -- ---- a form and a body
@@ -192,113 +151,83 @@ only_form h k no_forms = absurd (omega arith)
 only_form h k (one_form {e = f} x) = (f, refl, x)
 only_form h k (forms {e = f} {f = g} {fs = fs} x) = absurd (omega arith)
 
-thrown_made : (d : Bool) (at o w : ℕ) → operator_of w ≡ Throw → (f : Form) (es : Forms) (a b : Core) → fits 2 (Some 2) (count (more f es)) ≡ true → Expands false f a → Body at es b
-    → Expands d (applied at o w (more f es)) (before_body Throw at a b)
-thrown_made d at o w e f es a b h x y =
+thrown_made : {d : Bool} {at o w : ℕ} → operator_of w ≡ Throw → (f : Form) (es : Forms) {a b : Core} → fits 2 (Some 2) (count (more f es)) ≡ true → Expands false f a → Body at es b
+    → Expands d (applied at o w (more f es)) (core at (throw a b))
+thrown_made e f es h x y =
     let low : 2 ≤ count (more f es) = enough (more f es) 2 (Some 2) h in
     let high : count (more f es) ≤ 2 = few (more f es) 2 2 h in
     let only = only_form (omega arith) (omega arith) y in
     rw only.1 (thrown e x only.2)
 
-protected_made : (d : Bool) (at o w : ℕ) → operator_of w ≡ Protect → (f : Form) (es : Forms) (a b : Core) → fits 2 None (count (more f es)) ≡ true → Expands false f a → Body at es b
-    → Expands d (applied at o w (more f es)) (before_body Protect at a b)
-protected_made d at o w e f none a b h x y = cc
-protected_made d at o w e f (more g es) a b h x y = protected e x y
+protected_made : {d : Bool} {at o w : ℕ} → operator_of w ≡ Protect → (f : Form) (es : Forms) {a b : Core} → fits 2 None (count (more f es)) ≡ true → Expands false f a → Body at es b
+    → Expands d (applied at o w (more f es)) (core at (protect a b))
+protected_made e f none h x y = cc
+protected_made e f (more g es) h x y = protected e x y
 
-pub before_made : (d : Bool) (at o w : ℕ) (r : Operator) → operator_of w ≡ r → way_of r ≡ ways.BeforeBody → (f : Form) (es : Forms) (a b : Core)
-    → allows (reading_of r) (count (more f es)) ≡ true → Expands false f a → Body at es b → Expands d (applied at o w (more f es)) (before_body r at a b)
-before_made d at o w Catch e h f es a b k x y = caught e x y
-before_made d at o w Qcatch e h f es a b k x y = caught_all e x y
-before_made d at o w Throw e h f es a b k x y = thrown_made d at o w e f es a b k x y
-before_made d at o w Protect e h f es a b k x y = protected_made d at o w e f es a b k x y
-before_made d at o w When e h f es a b k x y = sugar (when e) (if_else if_is x (sequence progn_is y) (nil_made at))
-before_made d at o w Unless e h f es a b k x y = sugar (unless e) (if_else if_is x (nil_made at) (sequence progn_is y))
-before_made d at o w _ e h f es a b k x y = cc
+module _ {d : Bool} {at o w : ℕ} where
+  pub before_made : (r : Operator) {f : Form} {fs es : Forms} {a b : Core} → operator_of w ≡ r → way_of r ≡ ways.BeforeBody → fs ≡ more f es → allows (reading_of r) (count fs) ≡ true
+      → Expands false f a → Body at es b → Expands d (applied at o w fs) (before_body r at a b)
+  before_made Catch e h s k x y = rw s (caught e x y)
+  before_made Qcatch e h s k x y = rw s (caught_all e x y)
+  before_made Throw {f = f} {es = es} e h s k x y = rw s (thrown_made e f es (rw s at k) x y)
+  before_made Protect {f = f} {es = es} e h s k x y = rw s (protected_made e f es (rw s at k) x y)
+  before_made When e h s k x y = rw s (sugar (when e) (if_else (word_is IfWord) x (sequence (word_is PrognWord) y) (nil_made at)))
+  before_made Unless e h s k x y = rw s (sugar (unless e) (if_else (word_is IfWord) x (nil_made at) (sequence (word_is PrognWord) y)))
+  before_made _ e h s k x y = cc
 
-pub sequence_made : (d : Bool) (at o w : ℕ) (r : Operator) → operator_of w ≡ r → way_of r ≡ ways.InTurn → (fs : Forms) (c : Core) → Body at fs c → Expands d (applied at o w fs) c
-sequence_made d at o w Progn e h fs c x = sequence e x
-sequence_made d at o w _ e h fs c x = cc
+  pub sequence_made : (r : Operator) {fs : Forms} {c : Core} → operator_of w ≡ r → way_of r ≡ ways.InTurn → Body at fs c → Expands d (applied at o w fs) c
+  sequence_made Progn e h x = sequence e x
+  sequence_made _ e h x = cc
 
-pub printed_made : (d : Bool) (at o w : ℕ) (r : Operator) → operator_of w ≡ r → way_of r ≡ ways.Printed → (fs : Forms) (c : Core) → allows (reading_of r) (count fs) ≡ true → Body at fs c
-    → Expands d (applied at o w fs) (core at (print c))
-printed_made d at o w Print e h fs c k x =
-    let low : 1 ≤ count fs = enough fs 1 (Some 1) k in
-    let high : count fs ≤ 1 = few fs 1 1 k in
-    let only = only_form high low x in
-    rw only.1 (printed e only.2)
-printed_made d at o w _ e h fs c k x = cc
+  pub printed_made : (r : Operator) (fs : Forms) {c : Core} → operator_of w ≡ r → way_of r ≡ ways.Printed → allows (reading_of r) (count fs) ≡ true → Body at fs c
+      → Expands d (applied at o w fs) (core at (print c))
+  printed_made Print fs e h k x = let only = only_form (few fs 1 1 k) (enough fs 1 (Some 1) k) x in rw only.1 (printed e only.2)
+  printed_made _ fs e h k x = cc
 
-if_made : (d : Bool) (at o w : ℕ) → operator_of w ≡ If → (f g : Form) (es : Forms) (a b c : Core) → count es ≤ 1 → Expands false f a → Expands false g b → Body at es c
-    → Expands d (applied at o w (more f (more g es))) (core at (conditional a b c))
-if_made d at o w e f g none a b c h x y no_forms = if_then e x y
-if_made d at o w e f g (more i none) a b c h x y (one_form z) = if_else e x y z
-if_made d at o w e f g (more i (more j es)) a b c h x y z = absurd (omega arith)
+  if_made : operator_of w ≡ If → (f g : Form) (es : Forms) {a b c : Core} → count es ≤ 1 → Expands false f a → Expands false g b → Body at es c
+      → Expands d (applied at o w (more f (more g es))) (core at (conditional a b c))
+  if_made e f g none h x y no_forms = if_then e x y
+  if_made e f g (more i none) h x y (one_form z) = if_else e x y z
+  if_made e f g (more i (more j es)) h x y z = absurd (omega arith)
 
-pub tested_made : (d : Bool) (at o w : ℕ) (r : Operator) → operator_of w ≡ r → way_of r ≡ ways.Tested → (f g : Form) (es : Forms) (a b c : Core)
-    → allows (reading_of r) (count (more f (more g es))) ≡ true → Expands false f a → Expands false g b → Body at es c
-    → Expands d (applied at o w (more f (more g es))) (core at (conditional a b c))
-tested_made d at o w If e h f g es a b c k x y z =
-    let high : count (more f (more g es)) ≤ 3 = few (more f (more g es)) 2 3 k in
-    if_made d at o w e f g es a b c (omega arith) x y z
-tested_made d at o w _ e h f g es a b c k x y z = cc
+  pub tested_made : (r : Operator) {f g : Form} {fs gs es : Forms} {a b c : Core} → operator_of w ≡ r → way_of r ≡ ways.Tested → fs ≡ more f gs → gs ≡ more g es
+      → allows (reading_of r) (count fs) ≡ true → Expands false f a → Expands false g b → Body at es c → Expands d (applied at o w fs) (core at (conditional a b c))
+  tested_made If {f = f} {g = g} {fs = fs} {es = es} e h s t k x y z =
+      let high : count fs ≤ 3 = few fs 2 3 k in
+      let size = ap count (s ∙ ap (more f) t) in rw (s, t) (if_made e f g es (omega (arith, size)) x y z)
+  tested_made _ e h s t k x y z = cc
 
-pub applied_made : (d : Bool) (at o w : ℕ) (r : Operator) → operator_of w ≡ r → way_of r ≡ ways.Applied → (f : Form) (fs : Forms) (c : Core) (cs : Cores) → Expands false f c → Each fs cs
-    → Expands d (applied at o w (more f fs)) (core at (funcall d c cs))
-applied_made d at o w Funcall e h f fs c cs x y = value_called e x y
-applied_made d at o w _ e h f fs c cs x y = cc
-
--- ---- forms that there are
-
-pub some_before : (r : Operator) → way_of r ≡ ways.BeforeBody → allows (reading_of r) 0 ≡ true → ⊥
-some_before Catch h k = cc
-some_before Qcatch h k = cc
-some_before Throw h k = cc
-some_before Protect h k = cc
-some_before When h k = cc
-some_before Unless h k = cc
-some_before _ h k = cc
-
-pub some_applied : (r : Operator) → way_of r ≡ ways.Applied → allows (reading_of r) 0 ≡ true → ⊥
-some_applied Funcall h k = cc
-some_applied _ h k = cc
-
-pub some_tested : (r : Operator) (n : ℕ) → way_of r ≡ ways.Tested → allows (reading_of r) n ≡ true → n ≡ 0 ⊎ n ≡ 1 → ⊥
-some_tested If n h k (inl e) = let j = rw e at k in cc
-some_tested If n h k (inr e) = let j = rw e at k in cc
-some_tested _ n h k e = cc
+  pub applied_made : (r : Operator) {f : Form} {fs gs : Forms} {c : Core} {cs : Cores} → operator_of w ≡ r → way_of r ≡ ways.Applied → fs ≡ more f gs → Expands false f c → EachOf false gs cs
+      → Expands d (applied at o w fs) (core at (funcall d c cs))
+  applied_made Funcall e h s x y = rw s (value_called e x (each_used y))
+  applied_made _ e h s x y = cc
 
 -- ---- clauses
 
-clause_shape : (f c : Form) (es : Forms) → clause_in f ≡ Some (c, es) → (p : ℕ) × (f ≡ list p (more c es) proper)
-clause_shape (list p (more b is) proper) c es h =
-    let pair : (b, is) ≡ (c, es) = cc in
-    let first : b ≡ c = ap (λ (q : Form × Forms). q.0) pair in
-    let second : is ≡ es = ap (λ (q : Form × Forms). q.1) pair in
-    (p, rw (first, second) refl)
-clause_shape (list p (more b is) (dotted t)) c es h = cc
-clause_shape (list p none t) c es h = cc
-clause_shape (atom p t) c es h = cc
+pub no_clause_made : {at : ℕ} {fs : Forms} → fs ≡ none → Clauses at fs (nil_core at)
+no_clause_made {at = at} s d o w e = rw s (sugar (cond_none e) (nil_made at))
 
-pub clause_alone_made : (d : Bool) (at o w : ℕ) → operator_of w ≡ Cond → (f c : Form) (rs : Forms) (a rest : Core) → clause_in f ≡ Some (c, none) → Expands false c a
-    → Expands false (added at (number CondWord) rs) rest → Expands d (applied at o w (more f rs)) (either at a rest)
-clause_alone_made d at o w e f c rs a rest h x y = let s = clause_shape f c none h in rw s.1 (sugar (cond_test e) (or_more or_is x (sugar (or_one or_is) y)))
+module _ {at : ℕ} {f c : Form} {es rs : Forms} {a rest : Core} where
+  pub clause_alone_made : clause_in f ≡ Some (c, es) → es ≡ none → Expands false c a → Clauses at rs rest → Clauses at (more f rs) (either at a rest)
+  clause_alone_made h s x y d o w e =
+      let shape = clause_shape f c none (h ∙ ap (λ (is : Forms). Some (c, is)) s) in
+      rw shape.1 (sugar (cond_test e) (or_more (word_is OrWord) x (sugar (or_one (word_is OrWord)) (y false at (number CondWord) (word_is CondWord)))))
 
-pub clause_made : (d : Bool) (at o w : ℕ) → operator_of w ≡ Cond → (f c g : Form) (es rs : Forms) (a b rest : Core) → clause_in f ≡ Some (c, more g es) → Expands false c a → Body at (more g es) b
-    → Expands false (added at (number CondWord) rs) rest → Expands d (applied at o w (more f rs)) (core at (conditional a b rest))
-clause_made d at o w e f c g es rs a b rest h x y z =
-    let s = clause_shape f c (more g es) h in rw s.1 (sugar (cond_forms e) (if_else if_is x (sequence progn_is y) z))
-
-pub no_clause_made : (d : Bool) (at o w : ℕ) → operator_of w ≡ Cond → Expands d (applied at o w none) (nil_core at)
-no_clause_made d at o w e = sugar (cond_none e) (nil_made at)
+  pub clause_made : {g : Form} {gs : Forms} {b : Core} → clause_in f ≡ Some (c, es) → es ≡ more g gs → Expands false c a → Body at es b → Clauses at rs rest
+      → Clauses at (more f rs) (core at (conditional a b rest))
+  clause_made {g = g} {gs = gs} {b = b} h s x y z d o w e =
+      let shape = clause_shape f c (more g gs) (h ∙ ap (λ (is : Forms). Some (c, is)) s) in
+      let body = subst (λ (is : Forms). Body at is b) s y in
+      rw shape.1 (sugar (cond_forms e) (if_else (word_is IfWord) x (sequence (word_is PrognWord) body) (z false at (number CondWord) (word_is CondWord))))
 
 -- ---- bindings
 
 nested_made : {d : Bool} {at o p w : ℕ} {bs es : Forms} {ns : Bounds} {c : Core} → operator_of w ≡ LetStar → Binds bs ns → Body at es c
     → Expands d (applied at o w (more (list p bs proper) es)) (nested at ns c)
-nested_made e none_bound y = sugar (let_star_none e refl) (bound let_is refl none_bound y)
-nested_made e (one_bound x none_bound) y = sugar (let_star_one e) (bound let_is refl (one_bound x none_bound) y)
+nested_made e none_bound y = sugar (let_star_none e refl) (bound (word_is LetWord) refl none_bound y)
+nested_made e (one_bound x none_bound) y = sugar (let_star_one e) (bound (word_is LetWord) refl (one_bound x none_bound) y)
 nested_made e (one_bound x (one_bound z zs)) y =
-    sugar (let_star_more e) (bound let_is refl (one_bound x none_bound) (one_form (nested_made let_star_is (one_bound z zs) y)))
+    sugar (let_star_more e) (bound (word_is LetWord) refl (one_bound x none_bound) (one_form (nested_made (word_is LetStarWord) (one_bound z zs) y)))
 
 nil_items : (n : Bool) (bs : Forms) → (if n then Some none else None) ≡ Some bs → bs ≡ none
 nil_items true bs h = cc
@@ -306,7 +235,7 @@ nil_items false bs h = cc
 
 none_nested : {d : Bool} {at o w : ℕ} {b : Form} {bs es : Forms} {ns : Bounds} {c : Core} → operator_of w ≡ LetStar → items_of b ≡ Some none → bs ≡ none → Binds bs ns → Body at es c
     → Expands d (applied at o w (more b es)) (nested at ns c)
-none_nested e h k none_bound y = sugar (let_star_none e h) (bound let_is h none_bound y)
+none_nested e h k none_bound y = sugar (let_star_none e h) (bound (word_is LetWord) h none_bound y)
 none_nested e h k (one_bound x xs) y = cc
 
 let_star_made : {d : Bool} {at o w : ℕ} (b : Form) (bs : Forms) {es : Forms} {ns : Bounds} {c : Core} → operator_of w ≡ LetStar → items_of b ≡ Some bs → Binds bs ns → Body at es c
@@ -315,30 +244,40 @@ let_star_made (list p fs proper) bs e h x y = let same : fs ≡ bs = cc in rw sa
 let_star_made (list p fs (dotted t)) bs e h x y = cc
 let_star_made (atom p a) bs e h x y = let none_is = nil_items (is_nil a) bs h in none_nested e (h ∙ ap Some none_is) none_is x y
 
-pub let_star_becomes : (at : ℕ) (bs es : Forms) (ns : Bounds) (c : Core) → Binds bs ns → Body at es c → Becomes at LetStar (parts.bindings bs es) (nested at ns c)
-let_star_becomes at bs es ns c x y d o w fs e (fits_let_star {b = b} h) = let_star_made b bs e h x y
+-- ---- parts that fit
 
-pub let_becomes : (at : ℕ) (r : Operator) (bs es : Forms) (ns : Bounds) (c : Core) → (r ≡ LetStar → ⊥) → Binds bs ns → Body at es c
-    → Becomes at r (parts.bindings bs es) (core at (binding ns c))
-let_becomes at r bs es ns c k x y d o w fs e (fits_let h) = bound e h x y
-let_becomes at r bs es ns c k x y d o w fs e (fits_let_star h) = absurd (k refl)
+module _ {d : Bool} {at o w : ℕ} where
+  pub let_made : {p r : Operator} {fs bs es : Forms} {ns : Bounds} {c : Core} → Fits r fs (parts.bindings bs es) → operator_of w ≡ r → p ≡ r → Binds bs ns → Body at es c
+      → Expands d (applied at o w fs) (let_core p at ns c)
+  let_made (fits_let h) e q x y = rw q (bound e h x y)
+  let_made (fits_let_star {b = b} {bs = bs} h) e q x y = rw q (let_star_made b bs e h x y)
 
-pub qlet_becomes : (at : ℕ) (r : Operator) (f : Form) (bs es : Forms) (a : Core) (ns : Bounds) (c : Core) → Expands false f a → Binds bs ns → Body at es c
-    → Becomes at r (parts.form_and_bindings f bs es) (core at (qlet a ns c))
-qlet_becomes at r f bs es a ns c x y z d o w fs e (fits_qlet h) = bound_apart e x h y z
+  pub qlet_made : {r : Operator} {fs : Forms} {f : Form} {bs es : Forms} {a c : Core} {ns : Bounds} → Fits r fs (parts.form_and_bindings f bs es) → operator_of w ≡ r → Expands false f a → Binds bs ns
+      → Body at es c → Expands d (applied at o w fs) (core at (qlet a ns c))
+  qlet_made (fits_qlet h) e x y z = bound_apart e x h y z
 
--- ---- closures and the rest
+  pub lambda_made : {r : Operator} {fs : Forms} {ps : Form} {es : Forms} {vs : List Binder} {c : Core} → Fits r fs (parts.parameters ps es) → operator_of w ≡ r → parameters_in ps ≡ Some vs → Body at es c
+      → Expands d (applied at o w fs) (core at (lambda vs c))
+  lambda_made fits_lambda e x y = closed e x y
 
-pub lambda_becomes : (at : ℕ) (r : Operator) (ps : Form) (es : Forms) (vs : _) (c : Core) → parameters_in ps ≡ Some vs → Body at es c
-    → Becomes at r (parts.parameters ps es) (core at (lambda vs c))
-lambda_becomes at r ps es vs c x y d o w fs e fits_lambda = closed e x y
+  pub qlambda_made : {r : Operator} {fs : Forms} {f ps : Form} {es : Forms} {vs : List Binder} {a c : Core} → Fits r fs (parts.form_and_parameters f ps es) → operator_of w ≡ r → Expands false f a
+      → parameters_in ps ≡ Some vs → Body at es c → Expands d (applied at o w fs) (core at (qlambda a vs c))
+  qlambda_made fits_qlambda e x y z = closed_apart e x y z
 
-pub qlambda_becomes : (at : ℕ) (r : Operator) (f ps : Form) (es : Forms) (a : Core) (vs : _) (c : Core) → Expands false f a → parameters_in ps ≡ Some vs → Body at es c
-    → Becomes at r (parts.form_and_parameters f ps es) (core at (qlambda a vs c))
-qlambda_becomes at r f ps es a vs c x y z d o w fs e fits_qlambda = closed_apart e x y z
+  pub setq_made : {r : Operator} {fs : Forms} {p v : ℕ} {f : Form} {c : Core} → Fits r fs (parts.assignment p v f) → operator_of w ≡ r → Expands false f c
+      → Expands d (applied at o w fs) (core at (setq (named v) p c))
+  setq_made fits_assignment e x = assigned e x
 
-pub setq_becomes : (at : ℕ) (r : Operator) (p v : ℕ) (f : Form) (c : Core) → Expands false f c → Becomes at r (parts.assignment p v f) (core at (setq (named v) p c))
-setq_becomes at r p v f c x d o w fs e fits_assignment = assigned e x
+  pub quote_made : {r : Operator} {fs : Forms} {f : Form} → Fits r fs (parts.datum f) → operator_of w ≡ r → Expands d (applied at o w fs) (core at (constant f))
+  quote_made fits_datum e = quoted e
 
-pub quote_becomes : (at : ℕ) (r : Operator) (f : Form) → Becomes at r (parts.datum f) (core at (constant f))
-quote_becomes at r f d o w fs e fits_datum = quoted e
+  pub cond_made : {r : Operator} {fs cs : Forms} {k : Core} → Fits r fs (parts.clauses cs) → operator_of w ≡ r → Clauses at cs k → Expands d (applied at o w fs) k
+  cond_made fits_clauses e x = x d o w e
+
+pub no_definition : {r : Operator} {fs es : Forms} {s : parts.Split} {o v : ℕ} {ps : Form} → Fits r fs s → s ≡ parts.definition o v ps es → ⊥
+no_definition fits_datum e = cc
+no_definition _ e = cc
+
+pub ruleset of_parts = (quote_made, let_made, qlet_made, lambda_made, qlambda_made, setq_made, cond_made, no_definition)
+
+pub ruleset of_ways = (sequence_made, printed_made, applied_made, before_made, each_made)

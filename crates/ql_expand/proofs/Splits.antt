@@ -21,9 +21,9 @@ not_one : (n : ℕ) → (n + 1 + 1 == 1) ≡ false
 not_one n = grind (arith, nat_tests)
 
 datum_is : (names : List (List ℕ)) (n at : ℕ) (fs : Forms) → where_fits (count fs == 1) at [] ≡ split_faults names n at (datum_by fs)
-datum_is names n at none = refl
 datum_is names n at (more f none) = refl
 datum_is names n at (more f (more g fs)) = ap (λ b. where_fits b at []) (not_one (count fs))
+datum_is names n at fs = refl
 
 forms_are : (names : List (List ℕ)) (n at low : ℕ) (high : Option ℕ) (fs : Forms)
     → where_fits (fits low high (count fs)) at (forms_faults names n fs) ≡ split_faults names n at (forms_by low high fs)
@@ -34,12 +34,8 @@ forms_are names n at low high fs = by_fit (fits low high (count fs))
     by_fit false = refl
 
 assignment_is : (names : List (List ℕ)) (n at : ℕ) (fs : Forms) → assignment_faults names n at fs ≡ split_faults names n at (assignment_by fs)
-assignment_is names n at none = refl
-assignment_is names n at (more (atom o (symbol v)) none) = refl
 assignment_is names n at (more (atom o (symbol v)) (more e none)) = refl
-assignment_is names n at (more (atom o (symbol v)) (more e (more f fs))) = refl
-assignment_is names n at (more (atom o (integer z)) fs) = refl
-assignment_is names n at (more (list o es t) fs) = refl
+assignment_is names n at fs = refl
 
 nil_binds : (names : List (List ℕ)) (n at : ℕ) (b : Bool) (es : Forms)
     → where_fits b at (forms_faults names n es) ≡ split_faults names n at (with_binds (if b then Some none else None) es)
@@ -47,10 +43,9 @@ nil_binds names n at true es = refl
 nil_binds names n at false es = refl
 
 binding_is : (names : List (List ℕ)) (n at : ℕ) (fs : Forms) → binding_faults names n at fs ≡ split_faults names n at (bindings_by fs)
-binding_is names n at none = refl
 binding_is names n at (more (atom o a) es) = nil_binds names n at (is_nil a) es
 binding_is names n at (more (list o bs proper) es) = refl
-binding_is names n at (more (list o bs (dotted a)) es) = refl
+binding_is names n at fs = refl
 
 nil_binds_after : (names : List (List ℕ)) (n at : ℕ) (f : Form) (b : Bool) (es : Forms)
     → where_fits b at (form_faults names false n f ++ forms_faults names n es)
@@ -60,11 +55,9 @@ nil_binds_after names n at f false es = refl
 
 form_and_binding_is : (names : List (List ℕ)) (n at : ℕ) (fs : Forms)
     → form_and_binding_faults names n at fs ≡ split_faults names n at (form_and_bindings_by fs)
-form_and_binding_is names n at none = refl
-form_and_binding_is names n at (more f none) = refl
 form_and_binding_is names n at (more f (more (atom o a) es)) = nil_binds_after names n at f (is_nil a) es
 form_and_binding_is names n at (more f (more (list o bs proper) es)) = refl
-form_and_binding_is names n at (more f (more (list o bs (dotted a)) es)) = refl
+form_and_binding_is names n at fs = refl
 
 lambda_is : (names : List (List ℕ)) (n at : ℕ) (fs : Forms) → lambda_faults names n at fs ≡ split_faults names n at (parameters_by fs)
 lambda_is names n at none = refl
@@ -72,18 +65,14 @@ lambda_is names n at (more ps es) = refl
 
 form_and_lambda_is : (names : List (List ℕ)) (n at : ℕ) (fs : Forms)
     → form_and_lambda_faults names n at fs ≡ split_faults names n at (form_and_parameters_by fs)
-form_and_lambda_is names n at none = refl
-form_and_lambda_is names n at (more f none) = refl
 form_and_lambda_is names n at (more f (more ps es)) = refl
+form_and_lambda_is names n at fs = refl
 
 definition_is : (names : List (List ℕ)) (n at : ℕ) (fs : Forms) → definition_faults names n at fs ≡ split_faults names n at (definition_by fs)
-definition_is names n at none = refl
-definition_is names n at (more (atom o (symbol v)) none) = refl
 definition_is names n at (more (atom o (symbol v)) (more ps es)) = refl
-definition_is names n at (more (atom o (integer z)) none) = refl
 definition_is names n at (more (atom o (integer z)) (more ps es)) = refl
-definition_is names n at (more (list o es t) none) = refl
 definition_is names n at (more (list o es t) (more ps bs)) = refl
+definition_is names n at fs = refl
 
 above : (top : Bool) (at : ℕ) (xs ys : List Fault) → xs ≡ ys → unless_top top at xs ≡ unless top (fault BadTop at) ++ ys
 above true at xs ys e = e
@@ -113,12 +102,8 @@ deep_or_not false at = refl
 
 list_is : (names : List (List ℕ)) (top : Bool) (n at : ℕ) (fs : Forms) (t : Tail)
     → form_faults names top n (list at fs t) ≡ unless_deep n at (operation_faults names top n at (operation_in (list at fs t)))
-list_is names top n at none proper = deep_or_not (ltb 400 n) at
-list_is names top n at none (dotted a) = deep_or_not (ltb 400 n) at
 list_is names top n at (more (atom o (symbol w)) fs) proper = applied_is names top n at o w fs (reading_of (operator_of w)) refl
-list_is names top n at (more (atom o (symbol w)) fs) (dotted a) = deep_or_not (ltb 400 n) at
-list_is names top n at (more (atom o (integer z)) fs) t = deep_or_not (ltb 400 n) at
-list_is names top n at (more (list o es u) fs) t = deep_or_not (ltb 400 n) at
+list_is names top n at fs t = deep_or_not (ltb 400 n) at
 
 pub form_is : (names : List (List ℕ)) (top : Bool) (n : ℕ) (f : Form) → form_faults names top n f ≡ unless_deep n (place_of f) (shallow_faults names top n f)
 form_is names top n (atom at a) = refl
@@ -127,23 +112,16 @@ form_is names top n (list at fs t) = list_is names top n at fs t
 pub bind_is : (names : List (List ℕ)) (n : ℕ) (f : Form)
     → bind_faults names n f ≡ unless_deep n (place_of f) (bound_faults names n (place_of f) (bind_in f))
 bind_is names n (atom at (symbol v)) = refl
-bind_is names n (atom at (integer z)) = deep_or_not (ltb 400 n) at
 bind_is names n (list at (more (atom o (symbol v)) none) proper) = refl
 bind_is names n (list at (more (atom o (symbol v)) (more e none)) proper) = refl
 bind_is names n (list at (more (atom o (symbol v)) (more e (more f fs))) proper) = deep_or_not (ltb 400 n) at
-bind_is names n (list at none t) = deep_or_not (ltb 400 n) at
-bind_is names n (list at (more (atom o (symbol v)) none) (dotted a)) = deep_or_not (ltb 400 n) at
-bind_is names n (list at (more (atom o (symbol v)) (more e none)) (dotted a)) = deep_or_not (ltb 400 n) at
 bind_is names n (list at (more (atom o (symbol v)) (more e (more f fs))) (dotted a)) = deep_or_not (ltb 400 n) at
-bind_is names n (list at (more (atom o (integer z)) fs) t) = deep_or_not (ltb 400 n) at
-bind_is names n (list at (more (list o es u) fs) t) = deep_or_not (ltb 400 n) at
+bind_is names n f = deep_or_not (ltb 400 n) (place_of f)
 
 pub clause_is : (names : List (List ℕ)) (n : ℕ) (f : Form)
     → clause_faults names n f ≡ unless_deep n (place_of f) (tested_faults names n (place_of f) (clause_in f))
-clause_is names n (atom at a) = deep_or_not (ltb 400 n) at
-clause_is names n (list at none t) = deep_or_not (ltb 400 n) at
 clause_is names n (list at (more c es) proper) = refl
-clause_is names n (list at (more c es) (dotted a)) = deep_or_not (ltb 400 n) at
+clause_is names n f = deep_or_not (ltb 400 n) (place_of f)
 
 not_deep : (n at : ℕ) (fs : List Fault) → n ≤ 400 → unless_deep n at fs ≡ fs
 not_deep n at fs h = rw (le-ltb 400 n h) refl
@@ -168,8 +146,7 @@ symbols_are : (names : List (List ℕ)) (at : ℕ) (fs : Forms) → is_some (bin
     → shape_of_parameters names at (binders_in fs) ≡ symbols_faults names fs
 symbols_are names at none h = refl
 symbols_are names at (more (atom o (symbol v)) fs) h = one_more names at o v (binders_in fs) (symbols_faults names fs) (symbols_are names at fs) h
-symbols_are names at (more (atom o (integer z)) fs) h = cc
-symbols_are names at (more (list o es t) fs) h = cc
+symbols_are names at fs h = cc
 
 nil_symbols : (names : List (List ℕ)) (at : ℕ) (b : Bool) (fs : Forms) → (if b then Some none else None) ≡ Some fs
     → shape_of_parameters names at (if b then Some [] else None) ≡ symbols_faults names fs

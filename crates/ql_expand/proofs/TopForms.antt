@@ -1,65 +1,37 @@
 -- Top forms, one after another.
-use Rattle.std.proofs.Common.{◌≡◌, ℕ, ◌+◌, ◌<◌, ◌≤◌, zero, suc, List, [], ◌∷◌, ◌++◌, drop, length, get_or, map, Some, None, Option, refl, sym, ap, ◌∙◌, subst, arith}
-use Rattle.std.specs.Prelude.{if◌then◌else◌, ◌||◌, ◌&&◌, ◌==◌, Bool, true, false, ltb, slice_get, Result, Ok, Err, OnOk}
+use Rattle.std.proofs.Common.{◌≡◌, ℕ, ◌+◌, ◌<◌, ◌≤◌, List, [], ◌++◌, drop, length, get_or, map, Some, None, Option, refl, sym, ap, ◌∙◌, subst, arith}
+use Rattle.std.specs.Prelude.{true, false}
 use Rattle.std.proofs.lemmas.List.{append-nil}
 use Rattle.std.proofs.lemmas.Option.{slice_get_within}
 use Rattle.ql_base.specs.Names.{BeginsWithReserved}
-use Rattle.ql_base.specs.Refusal.{first_of}
-use Rattle.ql_base.specs.declared.refusal.Fault.{Fault}
-use Rattle.ql_forms.specs.Form.{Form as Datum, Forms, none, more, atom, list, Tail, proper, dotted, symbol, integer, operation_in, place_of}
+use Rattle.ql_forms.specs.Form.{Form as Datum, Forms, none, more, atom, list, symbol, integer, operation_in, place_of}
 use Rattle.ql_forms.specs.View.{form_of, forms_of}
 use Rattle.ql_forms.specs.declared.form.Form.{Form}
 use Rattle.ql_expand.specs.Building.{IsFine, IsFineSplit}
-use Rattle.ql_expand.specs.Core.{Cores, no_cores, and_core, joined_cores}
+use Rattle.ql_expand.specs.Core.{Cores, no_cores, joined_cores}
 use Rattle.ql_expand.specs.ExpandFault.{form_faults, source_faults, unless_deep}
-use Rattle.ql_expand.specs.Expands.{TopForms, no_tops, applied}
+use Rattle.ql_expand.specs.Expands.{TopForms, no_tops}
 use Rattle.ql_expand.specs.Operator.{operator_of, reading_of}
-use Rattle.ql_expand.specs.Parts.{Split, definition, assignment, definition_by, assignment_by, parts_by}
+use Rattle.ql_expand.specs.Parts.{definition, assignment, definition_by, assignment_by, parts_by}
 use Rattle.ql_expand.specs.Searching.{split_faults, operation_faults, top_faults, level_below}
 use Rattle.ql_expand.specs.Tops.{IsFineTop, Adds, Made, with_function, with_global, with_core}
-use Rattle.ql_expand.specs.View.{core_of, cores_of, function_of}
-use Rattle.ql_expand.specs.declared.core_form.Core.{Core}
+use Rattle.ql_expand.specs.View.{cores_of, function_of}
 use Rattle.ql_expand.specs.declared.operator.Operator.{Operator}
 use Rattle.ql_expand.specs.declared.operator.Operator.TheVariants.{Defun, Defvar}
 use Rattle.ql_expand.specs.declared.operator.Reading.{Reading}
 use Rattle.ql_expand.specs.declared.operator.Reading.TheVariants.{Global, Definition}
 use Rattle.ql_expand.specs.declared.top.Top.{Top}
 use Rattle.ql_expand.specs.declared.top.Tops.{Tops}
-use Rattle.ql_expand.proofs.Fine.{neither, undeep, fine_split}
+use Rattle.ql_expand.proofs.Fine.{neither, fine_operation, at_place}
+use Rattle.ql_expand.proofs.Built.{operation_shape}
 use Rattle.ql_expand.proofs.Splits.{form_is}
-use Rattle.ql_expand.proofs.Weights.{drop_at, drop_all}
-
--- one core more
-pub pushed : (xs : List Core) (x : Core) (cs : Cores) → joined_cores (cores_of (xs ++ x ∷ [])) cs ≡ joined_cores (cores_of xs) (and_core (core_of x) cs)
-pushed [] x cs = refl
-pushed (y ∷ xs) x cs = ap (and_core (core_of y)) (pushed xs x cs)
-
-pub pushed_core : {A E : Type 0} (r : Result A E) (xs ys : List Core) (x : Core) (cs : Cores) → OnOk r (ys ≡ xs ++ x ∷ [])
-    → OnOk r (joined_cores (cores_of ys) cs ≡ joined_cores (cores_of xs) (and_core (core_of x) cs))
-pushed_core (Ok a) xs ys x cs e = ap (λ z. joined_cores (cores_of z) cs) e ∙ pushed xs x cs
-pushed_core (Err a) xs ys x cs e = tt
-
-pub none_more : (cs : Cores) → joined_cores cs no_cores ≡ cs
-none_more no_cores = refl
-none_more (and_core c cs) = ap (and_core c) (none_more cs)
-
-none_there : (xs : List Form) (i : ℕ) → length xs ≤ i → forms_of (drop i xs) ≡ none
-none_there xs i le = ap forms_of (drop_all xs i le)
-
--- the forms from a place on
-pub from_there : (xs : List Form) (i : ℕ) (x : Form) → i < length xs → x ≡ get_or xs i x → forms_of (drop i xs) ≡ more (form_of x) (forms_of (drop (i + 1) xs))
-from_there xs i x lt e = ap forms_of (drop_at xs i x lt e)
+use Rattle.ql_expand.proofs.Counts.{rest, nothing_left}
+use Rattle.ql_expand.proofs.Gathering.{cores_alone}
 
 -- a top form at a place has no fault
 pub fine_top_at : (names : List (List ℕ)) (xs : List Form) (i : ℕ) (x : Form) → source_faults names (forms_of xs) ≡ [] → i < length xs → x ≡ get_or xs i x → IsFineTop (form_of x)
-fine_top_at names [] i x h lt e = absurd (omega (arith, lt))
-fine_top_at names (y ∷ xs) zero x h lt e =
-    (names, subst (λ z. form_faults names true 1 (form_of z) ≡ []) (sym e) (neither (form_faults names true 1 (form_of y)) (source_faults names (forms_of xs)) h).0)
-fine_top_at names (y ∷ xs) (suc i) x h lt e =
-    fine_top_at names xs i x (neither (form_faults names true 1 (form_of y)) (source_faults names (forms_of xs)) h).1 (omega (arith, lt)) e
-
-pub made_none : (all : List Form) (t : Tops) → t.functions ≡ [] → t.globals ≡ [] → t.body ≡ [] → Made all 0 t
-made_none all t f g b fs ns cs h = rw (f, g, b) h
+fine_top_at names =
+    at_place (λ fs. source_faults names fs ≡ []) IsFineTop (λ f fs h. let both = neither (form_faults names true 1 f) (source_faults names fs) h in ((names, both.0), both.1))
 
 pub made_next : (all : List Form) (i : ℕ) (x : Form) (t u : Tops) (top : Top) → Made all i t → i < length all → x ≡ get_or all i x → Adds (form_of x) top
     → ((after : List _) → map function_of u.functions ++ after ≡ map function_of t.functions ++ with_function top after)
@@ -67,39 +39,35 @@ pub made_next : (all : List Form) (i : ℕ) (x : Form) (t u : Tops) (top : Top) 
     → ((after : Cores) → joined_cores (cores_of u.body) after ≡ joined_cores (cores_of t.body) (with_core top after)) → Made all (i + 1) u
 made_next all i x t u top made lt e adds f g b fs ns cs h =
     rw (f fs, g ns, b cs) (made (with_function top fs) (with_global top ns) (with_core top cs)
-    (subst (λ z. TopForms z (with_function top fs) (with_global top ns) (with_core top cs)) (sym (from_there all i x lt e)) (adds (forms_of (drop (i + 1) all)) fs ns cs h)))
+    (subst (λ z. TopForms z (with_function top fs) (with_global top ns) (with_core top cs)) (sym (rest all i x lt e)) (adds (forms_of (drop (i + 1) all)) fs ns cs h)))
 
 pub made_all : (all : List Form) (i : ℕ) (t : Tops) → Made all i t → length all ≤ i → TopForms (forms_of all) (map function_of t.functions) t.globals (cores_of t.body)
 made_all all i t made le =
-    let end : TopForms (forms_of (drop i all)) [] [] no_cores = subst (λ z. TopForms z [] [] no_cores) (sym (none_there all i le)) no_tops in
+    let end : TopForms (forms_of (drop i all)) [] [] no_cores = subst (λ z. TopForms z [] [] no_cores) (sym (nothing_left all i le)) no_tops in
     let whole = made [] [] no_cores end in
-    rw (← append-nil (map function_of t.functions), ← append-nil t.globals, ← none_more (cores_of t.body)) whole
+    rw (← append-nil (map function_of t.functions), ← append-nil t.globals, ← cores_alone t.body) whole
 
 -- what reads as a definition is one
 pub definition_is : (fs : Forms) (o v : ℕ) (ps : Datum) (es : Forms) → definition o v ps es ≡ definition_by fs → fs ≡ more (atom o (symbol v)) (more ps es)
-definition_is none o v ps es e = cc
-definition_is (more f none) o v ps es e = cc
 definition_is (more (atom p (symbol w)) (more qs gs)) o v ps es e = cc
 definition_is (more (atom p (integer z)) (more qs gs)) o v ps es e = cc
 definition_is (more (list p hs t) (more qs gs)) o v ps es e = cc
+definition_is fs o v ps es e = cc
 
 pub assignment_is : (fs : Forms) (o v : ℕ) (f : Datum) → assignment o v f ≡ assignment_by fs → fs ≡ more (atom o (symbol v)) (more f none)
-assignment_is none o v f e = cc
-assignment_is (more (atom p (symbol w)) none) o v f e = cc
 assignment_is (more (atom p (symbol w)) (more g none)) o v f e = cc
-assignment_is (more (atom p (symbol w)) (more g (more h hs))) o v f e = cc
-assignment_is (more (atom p (integer z)) fs) o v f e = cc
-assignment_is (more (list p hs t) fs) o v f e = cc
+assignment_is fs o v f e = cc
 
 -- the parts of a top form without a fault
-pub fine_parts : (f : Datum) (o : (ℕ × ℕ) × Forms) → IsFineTop f → operation_in f ≡ Some o → IsFineSplit (parts_by (reading_of (operator_of o.0.1)) o.1)
-fine_parts (atom at a) o h e = cc
-fine_parts (list at fs t) o (names, h) e =
-    let r = reading_of (operator_of o.0.1) in
-    let all : operation_faults names true 1 at (operation_in (list at fs t)) ≡ [] =
-    undeep 1 at (operation_faults names true 1 at (operation_in (list at fs t))) (sym (form_is names true 1 (list at fs t)) ∙ h) in
-    let read : top_faults true at r ++ split_faults names (level_below r 1 o.1) at (parts_by r o.1) ≡ [] = ap (operation_faults names true 1 at) (sym e) ∙ all in
-    fine_split names (level_below r 1 o.1) at (parts_by r o.1) (neither (top_faults true at r) (split_faults names (level_below r 1 o.1) at (parts_by r o.1)) read).1
+fine_parts : (f : Datum) (p w : ℕ) (fs : Forms) → IsFineTop f → operation_in f ≡ Some ((p, w), fs) → IsFineSplit (parts_by (reading_of (operator_of w)) fs)
+fine_parts f p w fs (names, h) e =
+    (fine_operation names true 1 (place_of f) p w fs (subst (λ (g : Datum). form_faults names true 1 g ≡ []) (operation_shape f p w fs e) h)).1
+
+pub fine_definition : (f : Datum) (p w : ℕ) (fs : Forms) → IsFineTop f → operation_in f ≡ Some ((p, w), fs) → Defun ≡ operator_of w → IsFineSplit (definition_by fs)
+fine_definition f p w fs h e k = subst (λ r. IsFineSplit (parts_by (reading_of r) fs)) (sym k) (fine_parts f p w fs h e)
+
+pub fine_global : (f : Datum) (p w : ℕ) (fs : Forms) → IsFineTop f → operation_in f ≡ Some ((p, w), fs) → Defvar ≡ operator_of w → IsFineSplit (assignment_by fs)
+fine_global f p w fs h e k = subst (λ r. IsFineSplit (parts_by (reading_of r) fs)) (sym k) (fine_parts f p w fs h e)
 
 -- An operator that may stand inside may stand at the top.
 same_place : (r : Reading) (at : ℕ) → top_faults false 0 r ≡ [] → top_faults false at r ≡ top_faults true at r

@@ -105,10 +105,9 @@ long_step Product at w a b c fs k = refl
 long_step _ at w a b c fs k = cc
 
 no_bindings : (at w : ℕ) (b : Form) (es : Forms) → items_of b ≡ Some none → step LetStar at w (more b es) ≡ Some (added at (number LetWord) (more b es))
-no_bindings at w (atom p a) es i = refl
-no_bindings at w (list p none proper) es i = refl
 no_bindings at w (list p (more f fs) proper) es i = cc
 no_bindings at w (list p fs (dotted a)) es i = cc
+no_bindings at w b es i = refl
 
 stepped : {f g : Form} → Rewrites f g → step_of f ≡ Some g
 stepped (no_terms k) = rw k refl

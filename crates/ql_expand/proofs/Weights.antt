@@ -1,31 +1,13 @@
 -- How large forms are, and their parts.
-use Rattle.std.proofs.Common.{◌≡◌, ℕ, zero, suc, ◌+◌, ◌<◌, ◌≤◌, List, [], ◌∷◌, ◌++◌, length, get_or, drop, refl, sym, ap, subst, arith, Some, None}
+use Rattle.std.proofs.Common.{◌≡◌, ℕ, zero, suc, ◌+◌, ◌<◌, ◌≤◌, List, [], ◌∷◌, ◌++◌, ◌∙◌, length, get_or, sym, ap, subst, arith, Some, None}
 use Rattle.std.specs.Prelude.{Bool, true, false, if◌then◌else◌}
-use Rattle.ql_forms.specs.Form.{Form as Datum, Forms, none, more, proper, dotted, atom, list, symbol, integer, is_nil, items_of, operation_in}
+use Rattle.ql_forms.specs.Form.{Form as Datum, Forms, none, proper, dotted, atom, list, is_nil, items_of}
 use Rattle.ql_forms.specs.View.{form_of, forms_of}
 use Rattle.ql_forms.specs.declared.form.Form.{Form}
-use Rattle.ql_expand.specs.Building.{Fits, fits_datum, fits_forms, fits_assignment, fits_let, fits_let_star, fits_qlet, fits_lambda, fits_qlambda, fits_clauses}
-use Rattle.ql_expand.specs.Parts.{Split, misshapen, datum, forms, assignment, bindings, form_and_bindings, parameters, form_and_parameters, definition, clauses, clause_in}
+use Rattle.ql_expand.specs.Building.{IsFine, AreFine, weight, weights, split_weight, Fits, fits_datum, fits_forms, fits_assignment, fits_let, fits_let_star, fits_qlet, fits_lambda, fits_qlambda, fits_clauses}
+use Rattle.ql_expand.specs.Parts.{Split}
+use Rattle.ql_expand.proofs.Fine.{fine_before}
 use Rattle.ql_expand.specs.declared.operator.Operator.{Operator}
-
-abbrev mutual
-  pub weight : Datum → ℕ
-  weight (atom at a) = 1
-  weight (list at fs t) = weights fs + 1
-
-  pub weights : Forms → ℕ
-  weights none = 0
-  weights (more f fs) = weight f + 1 + weights fs
-
-abbrev pub split_weight : Split → ℕ
-split_weight (forms fs) = weights fs
-split_weight (assignment o v e) = weight e + 1
-split_weight (bindings bs es) = weights bs + weights es
-split_weight (form_and_bindings f bs es) = weight f + 1 + (weights bs + weights es)
-split_weight (parameters ps es) = weights es
-split_weight (form_and_parameters f ps es) = weight f + 1 + weights es
-split_weight (clauses cs) = weights cs
-split_weight _ = 0
 
 nil_items : (n : Bool) (fs : Forms) → (if n then Some none else None) ≡ Some fs → none ≡ fs
 nil_items true fs e = cc
@@ -48,26 +30,6 @@ fits_weight fits_lambda = omega arith
 fits_weight fits_qlambda = omega arith
 fits_weight fits_clauses = omega arith
 
-pub operation_weight : (f : Datum) (o w : ℕ) (fs : Forms) → operation_in f ≡ Some ((o, w), fs) → weights fs + 3 ≤ weight f
-operation_weight (list at (more (atom p (symbol v)) gs) proper) o w fs e =
-    let pair : ((p, v), gs) ≡ ((o, w), fs) = cc in
-    let same : gs ≡ fs = ap (λ (q : (ℕ × ℕ) × Forms). q.1) pair in rw (← same) (omega arith)
-operation_weight (list at (more (atom p (symbol v)) gs) (dotted a)) o w fs e = cc
-operation_weight (list at (more (atom p (integer z)) gs) t) o w fs e = cc
-operation_weight (list at (more (list p hs u) gs) t) o w fs e = cc
-operation_weight (list at none t) o w fs e = cc
-operation_weight (atom at a) o w fs e = cc
-
-pub clause_weight : (f c : Datum) (es : Forms) → clause_in f ≡ Some (c, es) → weight c + weights es + 2 ≤ weight f
-clause_weight (list at (more b is) proper) c es e =
-    let pair : (b, is) ≡ (c, es) = cc in
-    let first : b ≡ c = ap (λ (q : Datum × Forms). q.0) pair in
-    let second : is ≡ es = ap (λ (q : Datum × Forms). q.1) pair in
-    rw (← first, ← second) (omega arith)
-clause_weight (list at (more b is) (dotted a)) c es e = cc
-clause_weight (list at none t) c es e = cc
-clause_weight (atom at a) c es e = cc
-
 -- the weight of the one at a place
 pub weight_at : (xs : List Form) (i : ℕ) (x : Form) → i < length xs → x ≡ get_or xs i x → weight (form_of x) + 1 ≤ weights (forms_of xs)
 weight_at [] i x h e = absurd (omega arith)
@@ -77,20 +39,11 @@ weight_at (y ∷ xs) (suc i) x h e =
     let small : weight (form_of x) + 1 ≤ weights (forms_of xs) = weight_at xs i x within e in
     omega arith
 
-pub weight_before : (xs : List Form) (x : Form) → weights (forms_of (xs ++ x ∷ [])) ≡ weights (forms_of xs) + (weight (form_of x) + 1)
+weight_before : (xs : List Form) (x : Form) → weights (forms_of (xs ++ x ∷ [])) ≡ weights (forms_of xs) + (weight (form_of x) + 1)
 weight_before [] x = omega arith
 weight_before (y ∷ xs) x = omega (arith, weight_before xs x)
 
-pub drop_at : (xs : List Form) (i : ℕ) (x : Form) → i < length xs → x ≡ get_or xs i x → drop i xs ≡ x ∷ drop (i + 1) xs
-drop_at [] i x h e = absurd (omega arith)
-drop_at (y ∷ xs) zero x h e = rw (sym e) refl
-drop_at (y ∷ xs) (suc i) x h e =
-    let within : i < length xs = omega arith in
-    let n : suc i + 1 ≡ suc (i + 1) = omega arith in
-    rw n (drop_at xs i x within e)
-
-pub drop_all : (xs : List Form) (i : ℕ) → length xs ≤ i → drop i xs ≡ []
-drop_all [] zero h = refl
-drop_all [] (suc i) h = refl
-drop_all (x ∷ xs) zero h = absurd (omega arith)
-drop_all (x ∷ xs) (suc i) h = drop_all xs i (omega arith)
+-- Forms that end with one form, none of them at fault.
+pub ends : {fs : List Form} (xs : List Form) (x : Form) → fs ≡ xs ++ x ∷ [] → AreFine (forms_of fs)
+    → (AreFine (forms_of xs) × IsFine (form_of x)) × (weights (forms_of fs) ≡ weights (forms_of xs) + (weight (form_of x) + 1))
+ends xs x e h = (fine_before xs x (subst (λ (ys : List Form). AreFine (forms_of ys)) e h), ap (λ (ys : List Form). weights (forms_of ys)) e ∙ weight_before xs x)

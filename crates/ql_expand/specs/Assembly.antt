@@ -9,7 +9,7 @@ use Rattle.ql_expand.specs.Operator.{operator_of, is_constant}
 use Rattle.ql_expand.specs.declared.assemble.Way.{Way}
 use Rattle.ql_expand.specs.declared.assemble.Way.TheVariants as ways
 use Rattle.ql_expand.specs.declared.operator.Operator.{Operator}
-use Rattle.ql_expand.specs.declared.operator.Operator.TheVariants.{If, Progn, Funcall, Print, Catch, Qcatch, Throw, Protect, When, Unless, Sum, Difference, Product, Not, AtMost, AtLeast, And, Or, List as ListOf, Call}
+use Rattle.ql_expand.specs.declared.operator.Operator.TheVariants.{If, Progn, Funcall, Print, Catch, Qcatch, Throw, Protect, When, Unless, Sum, Difference, Product, Not, AtMost, AtLeast, And, Or, LetStar, List as ListOf, Call}
 
 abbrev pub nil_core : ℕ → Core
 nil_core at = core at (constant (nil_at at))
@@ -78,6 +78,11 @@ abbrev pub nested : ℕ → Bounds → Core → Core
 nested at no_bounds c = core at (binding no_bounds c)
 nested at bs c = under at bs c
 
+-- bindings and a body, of `let` where the operator isn't `let*`
+abbrev pub let_core : Operator → ℕ → Bounds → Core → Core
+let_core LetStar at bs c = nested at bs c
+let_core _ at bs c = core at (binding bs c)
+
 -- a form and a body: of `when`, where it is none of these
 abbrev pub before_body : Operator → ℕ → Core → Core → Core
 before_body Catch at c e = core at (catch c e)
@@ -107,8 +112,6 @@ way_of Progn = ways.InTurn
 way_of Print = ways.Printed
 way_of If = ways.Tested
 way_of Funcall = ways.Applied
-way_of And = ways.Linked
-way_of Or = ways.Linked
 way_of Catch = ways.BeforeBody
 way_of Qcatch = ways.BeforeBody
 way_of Throw = ways.BeforeBody

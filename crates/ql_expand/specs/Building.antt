@@ -1,5 +1,5 @@
 -- Forms without a fault, their parts, and what they are built of. It serves the proofs.
-use Rattle.std.specs.Prelude.{◌≡◌, ℕ, Bool, true, false, List, [], Option, Some, None}
+use Rattle.std.specs.Prelude.{◌≡◌, ◌+◌, ◌==◌, ◌&&◌, ℕ, Bool, true, false, List, [], Some, None}
 use Rattle.ql_forms.specs.Form.{Form, Forms, none, more, atom, list, symbol, items_of, count}
 use Rattle.ql_expand.specs.Core.{Core, Cores, no_cores, and_core, Binder}
 use Rattle.ql_expand.specs.ExpandFault.{fits, form_faults, forms_faults, bind_faults, binds_faults, clause_faults, clauses_faults}
@@ -7,7 +7,7 @@ use Rattle.ql_expand.specs.Expands.{applied, one, two, binders_in, parameters_in
 use Rattle.ql_expand.specs.Operator.{operator_of, reading_of}
 use Rattle.ql_expand.specs.Parts.{Split, misshapen, datum, forms, assignment, bindings, form_and_bindings, parameters, form_and_parameters, definition, clauses}
 use Rattle.ql_expand.specs.declared.operator.Operator.{Operator}
-use Rattle.ql_expand.specs.declared.operator.Operator.TheVariants.{Quote, Lambda, Qlambda, Setq, Let, Qlet, Cond, LetStar}
+use Rattle.ql_expand.specs.declared.operator.Operator.TheVariants.{Quote, Lambda, Qlambda, Setq, Let, Qlet, Cond, And, Or, LetStar}
 use Rattle.ql_expand.specs.declared.operator.Reading.{Reading}
 use Rattle.ql_expand.specs.declared.operator.Reading.TheVariants as readings
 
@@ -71,15 +71,37 @@ pub data Fits : Operator → Forms → Split → Type 0 where
   fits_qlambda : {f ps : Form} {es : Forms} → Fits Qlambda (more f (more ps es)) (form_and_parameters f ps es)
   fits_clauses : {cs : Forms} → Fits Cond cs (clauses cs)
 
--- Each list at this offset, with this operator and the parts that are split so, expands to this core.
-abbrev pub Becomes : ℕ → Operator → Split → Core → Type 0
-Becomes at r s c = (d : Bool) (o w : ℕ) (fs : Forms) → operator_of w ≡ r → Fits r fs s → Expands d (applied at o w fs) c
-
--- Each list at this offset, with this operator and these parts, expands to this core.
-abbrev pub ExpandsAs : ℕ → Operator → Forms → Core → Type 0
-ExpandsAs at r fs c = (d : Bool) (o w : ℕ) → operator_of w ≡ r → Expands d (applied at o w fs) c
+-- Each `cond` at this offset with these clauses expands to this core.
+abbrev pub Clauses : ℕ → Forms → Core → Type 0
+Clauses at fs c = (d : Bool) (o w : ℕ) → operator_of w ≡ Cond → Expands d (applied at o w fs) c
 
 -- forms whose values are all dropped, or all used
 pub data EachOf : (dropped : Bool) → Forms → Cores → Type 0 where
   none_of : {d : Bool} → EachOf d none no_cores
   one_of : {d : Bool} {e : Form} {fs : Forms} {c : Core} {cs : Cores} → Expands d e c → EachOf d fs cs → EachOf d (more e fs) (and_core c cs)
+
+-- whether the forms after an operator are dropped, where the whole is and there are so many
+abbrev pub passes : Operator → Bool → ℕ → Bool
+passes And d n = (n == 1) && d
+passes Or d n = (n == 1) && d
+passes _ d n = false
+
+-- how large forms are, and their parts
+abbrev mutual
+  pub weight : Form → ℕ
+  weight (atom at a) = 1
+  weight (list at fs t) = weights fs + 1
+
+  pub weights : Forms → ℕ
+  weights none = 0
+  weights (more f fs) = weight f + 1 + weights fs
+
+abbrev pub split_weight : Split → ℕ
+split_weight (forms fs) = weights fs
+split_weight (assignment o v e) = weight e + 1
+split_weight (bindings bs es) = weights bs + weights es
+split_weight (form_and_bindings f bs es) = weight f + 1 + (weights bs + weights es)
+split_weight (parameters ps es) = weights es
+split_weight (form_and_parameters f ps es) = weight f + 1 + weights es
+split_weight (clauses cs) = weights cs
+split_weight _ = 0

@@ -5,7 +5,7 @@ use Rattle.ql_forms.specs.View.{forms_of}
 use Rattle.ql_forms.specs.declared.form.Form.{Form as Value}
 use Rattle.ql_expand.specs.Core as spec
 use Rattle.ql_expand.specs.Core.{Cores, and_core, joined_cores}
-use Rattle.ql_expand.specs.ExpandFault.{form_faults, source_faults}
+use Rattle.ql_expand.specs.ExpandFault.{form_faults}
 use Rattle.ql_expand.specs.Expands.{TopForms}
 use Rattle.ql_expand.specs.View.{core_of, cores_of, function_of}
 use Rattle.ql_expand.specs.declared.top.Top.{Top}

@@ -1,21 +1,16 @@
 //! The core of forms that have no fault.
 
-ghost use Rattle.std.specs.Prelude.{◌≡◌, ◌≤◌, ◌++◌, ◌==◌, ◌&&◌, ◌∷◌, [], ℕ, IfOk, MatchOption, Some, false, length, true};
-ghost use Rattle.ql_forms.specs.Form.{Forms as Data, atom, more, count};
+ghost use Rattle.std.specs.Prelude.{◌≡◌, ◌≤◌, ◌+◌, ◌++◌, ◌∷◌, [], IfOk, MatchOption, Some, false, length, true};
+ghost use Rattle.ql_forms.specs.Form.{Forms as Data, atom, more, none, count, place_of};
 ghost use Rattle.ql_forms.specs.View.{atom_of, form_of, forms_of};
-ghost use Rattle.ql_expand.specs.Building.{IsList, IsFine, AreFine, IsFineBind, AreFineBinds, IsFineClause, AreFineClauses, HasParameters, HasBinders, allows, Becomes, ExpandsAs, EachOf};
+ghost use Rattle.ql_expand.specs.Building.{IsList, IsFine, AreFine, IsFineBind, AreFineBinds, IsFineClause, AreFineClauses, HasParameters, HasBinders, IsFineSplit, Fits, allows, passes, Clauses, EachOf, weight, weights, split_weight};
 ghost use Rattle.ql_expand.specs.Core.{binder, named};
-ghost use Rattle.ql_expand.specs.Expands.{applied, parameters_in, binders_in, Expands, Body, InTurn, Bind, Binds};
+ghost use Rattle.ql_expand.specs.Expands.{applied, parameters_in, binders_in, Expands, Body, Bind, Binds};
 ghost use Rattle.ql_expand.specs.Operator.{operator_of, reading_of};
-ghost use Rattle.ql_expand.specs.Assembly.{way_of};
-ghost use Rattle.ql_expand.specs.declared.operator.Operator.{Operator as OperatorOf};
-ghost use Rattle.ql_expand.specs.Parts.{assignment, bindings, form_and_bindings, parameters, form_and_parameters};
+ghost use Rattle.ql_expand.specs.Parts.{split_of};
 ghost use Rattle.ql_expand.specs.View.{binders_of, bound_of, bounds_of, core_of, cores_of};
 
-use crate::assemble::{
-    Way, atom_core, before_body, binding, boxed_nil, conditional, either, funcall, lambda, nested,
-    nil_core, of_each, print, progn, qlambda, qlet, quoted, setq, way_of,
-};
+use crate::assemble::{Child, Made, Maker, Way, way_of};
 use crate::core_form::{Binder, Bound, Core, VarName};
 use crate::operator::{Operator, operator_of};
 use crate::parts::{Parts, bind_of, clause_of, parts_of};
@@ -26,39 +21,35 @@ use std::alloc::{AllocError, Global};
 
 /// The core of a form.
 #[cycle(build)]
-pub fn expanded<'a>(alloc: Global, dropped: bool, form: &'a Form) -> Result<Core<'a>, AllocError>
+#[tactic(auto, using(crate::proofs::Making::atom_seen))]
+pub fn expanded<'a>(alloc: Global, dropped: bool, form: &'a Form) -> Made<'a>
     requires { IsFine (form_of form.now) }
     ensures { IfOk result (λ c. Expands dropped (form_of form.now) (core_of c)) }
 {
-    if let Some((at, atom)) = atom_in(form) {
-        return Ok(atom_core(at, atom));
+    let at = form.offset();
+    let make = Maker { alloc, at };
+    if let Some(atom) = atom_in(form) {
+        return Ok(make.atom(atom));
     }
     match form.operation() {
         None => unreachable!(),
-        Some((head, parts)) => applied(alloc, dropped, form.offset(), head, parts),
+        Some((head, parts)) => applied(make, dropped, head, parts),
     }
 }
 
-// The atom that a form is, with its offset.
-fn atom_in(form: &Form) -> Option<(Offset, Atom)>
-    ensures { MatchOption result (IsList (form_of form.now)) (λ found. form_of form.now ≡ atom found.0.0 (atom_of found.1)) }
+// The atom that a form is.
+fn atom_in(form: &Form) -> Option<Atom>
+    ensures { MatchOption result (IsList (form_of form.now)) (λ found. form_of form.now ≡ atom (place_of (form_of form.now)) (atom_of found)) }
 {
     match form {
-        Form::Atom { at, atom } => Some((*at, *atom)),
+        Form::Atom { atom, .. } => Some(*atom),
         Form::List { .. } => None,
     }
 }
 
-// The values of some forms of `and` and `or` are dropped: of a single one, where that of the whole is.
-fn passes(dropped: bool, forms: &[Form]) -> bool
-    ensures { result ≡ ((length forms.now == 1) && dropped) }
-{
-    forms.len() == 1 && dropped
-}
-
 /// The core of a form whose value is used, boxed.
 #[cycle(build)]
-pub fn boxed<'a>(alloc: Global, form: &'a Form) -> Result<Boxed<Core<'a>>, AllocError>
+pub fn boxed<'a>(alloc: Global, form: &'a Form) -> Result<Child<'a>, AllocError>
     requires { IsFine (form_of form.now) }
     ensures { IfOk result (λ c. Expands false (form_of form.now) (core_of c)) }
 {
@@ -66,191 +57,93 @@ pub fn boxed<'a>(alloc: Global, form: &'a Form) -> Result<Boxed<Core<'a>>, Alloc
     Boxed::new(alloc, core)
 }
 
+// The parts of a list that has no fault.
+fn fitting<'a>(at: Offset, head: Symbol, parts: &'a [Form]) -> Parts<'a>
+    requires { IsFine (applied at.0 head.at.0 head.number (forms_of parts.now)) }
+    ensures fine { IsFineSplit (split_of result) }
+    ensures fits { Fits (operator_of head.number) (forms_of parts.now) (split_of result) }
+    ensures size { split_weight (split_of result) ≤ weights (forms_of parts.now) }
+{
+    parts_of(operator_of(head.number), parts)
+}
+
 // A list with this operator.
 #[cycle(build)]
-fn applied<'a>(
-    alloc: Global,
-    dropped: bool,
-    at: Offset,
-    head: Symbol,
-    parts: &'a [Form],
-) -> Result<Core<'a>, AllocError>
-    requires { IsFine (applied at.0 head.at.0 head.number (forms_of parts.now)) }
-    ensures { IfOk result (λ c. Expands dropped (applied at.0 head.at.0 head.number (forms_of parts.now)) (core_of c)) }
+#[tactic(auto, using(crate::proofs::Making::of_parts))]
+fn applied<'a>(make: Maker, dropped: bool, head: Symbol, parts: &'a [Form]) -> Made<'a>
+    requires { IsFine (applied make.at.0 head.at.0 head.number (forms_of parts.now)) }
+    ensures { IfOk result (λ c. Expands dropped (applied make.at.0 head.at.0 head.number (forms_of parts.now)) (core_of c)) }
 {
-    let operator = operator_of(head.number);
-    match parts_of(operator, parts) {
+    match fitting(make.at, head, parts) {
         Parts::Misshapen => unreachable!(),
         Parts::Definition { .. } => unreachable!(),
-        Parts::Datum(datum) => Ok(quoted(at, datum)),
-        Parts::Forms(forms) => of_forms(alloc, dropped, at, operator, head, forms),
-        Parts::Assignment { variable, value } => assigned(alloc, at, variable, value),
-        Parts::Bindings { binds, body } => bound(alloc, at, operator, binds, body),
-        Parts::FormAndBindings { form, binds, body } => bound_apart(alloc, at, form, binds, body),
-        Parts::Parameters { params, body } => closed(alloc, at, params, body),
+        Parts::Datum(datum) => Ok(make.quoted(datum)),
+        Parts::Forms(_) => of_forms(make, dropped, operator_of(head.number), head, parts),
+        Parts::Assignment { variable, value } => {
+            let value = boxed(make.alloc, value)?;
+            Ok(make.setq(variable, value))
+        }
+        Parts::Bindings { binds, body } => {
+            let binds = all_bound(make.alloc, binds)?;
+            let body = boxed_body(make, body)?;
+            make.bound(operator_of(head.number), binds, body)
+        }
+        Parts::FormAndBindings { form, binds, body } => {
+            let prop = boxed(make.alloc, form)?;
+            let binds = all_bound(make.alloc, binds)?;
+            let body = boxed_body(make, body)?;
+            Ok(make.qlet(prop, binds, body))
+        }
+        Parts::Parameters { params, body } => {
+            let params = parameters(make.alloc, params)?;
+            let body = boxed_body(make, body)?;
+            Ok(make.lambda(params, body))
+        }
         Parts::FormAndParameters { form, params, body } => {
-            closed_apart(alloc, at, form, params, body)
+            let prop = boxed(make.alloc, form)?;
+            let params = parameters(make.alloc, params)?;
+            let body = boxed_body(make, body)?;
+            Ok(make.qlambda(prop, params, body))
         }
         Parts::Clauses(clauses) => {
-            let core = cond(alloc, at, clauses)?;
+            let core = cond(make, clauses)?;
             Ok(core.into_inner())
         }
     }
 }
 
-// A change of a variable.
+// The body of a form.
 #[cycle(build)]
-fn assigned<'a>(
-    alloc: Global,
-    at: Offset,
-    variable: Symbol,
-    value: &'a Form,
-) -> Result<Core<'a>, AllocError>
-    requires { IsFine (form_of value.now) }
-    ensures { (r : OperatorOf) → IfOk result (λ c. Becomes at.0 r (assignment variable.at.0 variable.number (form_of value.now)) (core_of c)) }
-{
-    let value = boxed(alloc, value)?;
-    Ok(setq(at, variable, value))
-}
-
-// Bindings and a body.
-#[cycle(build)]
-fn bound<'a>(
-    alloc: Global,
-    at: Offset,
-    operator: Operator,
-    binds: &'a [Form],
-    body: &'a [Form],
-) -> Result<Core<'a>, AllocError>
-    requires binds { AreFineBinds (forms_of binds.now) }
-    requires body { AreFine (forms_of body.now) }
-    ensures { IfOk result (λ c. Becomes at.0 operator (bindings (forms_of binds.now) (forms_of body.now)) (core_of c)) }
-{
-    let binds = all_bound(alloc, binds)?;
-    let body = boxed_body(alloc, at, body)?;
-    match operator {
-        Operator::LetStar => nested(alloc, at, binds, body),
-        _ => Ok(binding(at, binds, body)),
-    }
-}
-
-// Bindings whose values may be found by processes, and a body.
-#[cycle(build)]
-fn bound_apart<'a>(
-    alloc: Global,
-    at: Offset,
-    form: &'a Form,
-    binds: &'a [Form],
-    body: &'a [Form],
-) -> Result<Core<'a>, AllocError>
-    requires form { IsFine (form_of form.now) }
-    requires binds { AreFineBinds (forms_of binds.now) }
-    requires body { AreFine (forms_of body.now) }
-    ensures { (r : OperatorOf) → IfOk result (λ c. Becomes at.0 r (form_and_bindings (form_of form.now) (forms_of binds.now) (forms_of body.now)) (core_of c)) }
-{
-    let prop = boxed(alloc, form)?;
-    let binds = all_bound(alloc, binds)?;
-    let body = boxed_body(alloc, at, body)?;
-    Ok(qlet(at, prop, binds, body))
-}
-
-// A closure.
-#[cycle(build)]
-fn closed<'a>(
-    alloc: Global,
-    at: Offset,
-    params: &'a Form,
-    body: &'a [Form],
-) -> Result<Core<'a>, AllocError>
-    requires params { HasParameters (form_of params.now) }
-    requires body { AreFine (forms_of body.now) }
-    ensures { (r : OperatorOf) → IfOk result (λ c. Becomes at.0 r (parameters (form_of params.now) (forms_of body.now)) (core_of c)) }
-{
-    let params = parameters(alloc, params)?;
-    let body = boxed_body(alloc, at, body)?;
-    Ok(lambda(at, params, body))
-}
-
-// A closure that may be a process.
-#[cycle(build)]
-fn closed_apart<'a>(
-    alloc: Global,
-    at: Offset,
-    form: &'a Form,
-    params: &'a Form,
-    body: &'a [Form],
-) -> Result<Core<'a>, AllocError>
-    requires form { IsFine (form_of form.now) }
-    requires params { HasParameters (form_of params.now) }
-    requires body { AreFine (forms_of body.now) }
-    ensures { (r : OperatorOf) → IfOk result (λ c. Becomes at.0 r (form_and_parameters (form_of form.now) (form_of params.now) (forms_of body.now)) (core_of c)) }
-{
-    let prop = boxed(alloc, form)?;
-    let params = parameters(alloc, params)?;
-    let body = boxed_body(alloc, at, body)?;
-    Ok(qlambda(at, prop, params, body))
-}
-
-// The body of the form at this offset.
-#[cycle(build)]
-pub fn body<'a>(alloc: Global, at: Offset, forms: &'a [Form]) -> Result<Core<'a>, AllocError>
+#[tactic(auto, using(crate::proofs::Gathering::of_bodies))]
+pub fn body<'a>(make: Maker, forms: &'a [Form]) -> Made<'a>
     requires { AreFine (forms_of forms.now) }
-    ensures { IfOk result (λ c. Body at.0 (forms_of forms.now) (core_of c)) }
+    ensures { IfOk result (λ c. Body make.at.0 (forms_of forms.now) (core_of c)) }
 {
-    let Some((form, others)) = first_of(forms) else {
-        return Ok(nil_core(at));
+    let Some((last, before)) = forms.split_last() else {
+        return Ok(make.nil());
     };
-    match first_of(others) {
-        None => expanded(alloc, false, form),
-        Some(_) => {
-            let cores = in_turn(alloc, forms)?;
-            Ok(progn(at, cores))
-        }
+    if before.is_empty() {
+        return expanded(make.alloc, false, last);
     }
+    let mut cores = each(make.alloc, true, before)?;
+    let core = expanded(make.alloc, false, last)?;
+    cores.push(core)?;
+    Ok(make.progn(cores))
 }
 
 // The same, boxed.
 #[cycle(build)]
-fn boxed_body<'a>(
-    alloc: Global,
-    at: Offset,
-    forms: &'a [Form],
-) -> Result<Boxed<Core<'a>>, AllocError>
+fn boxed_body<'a>(make: Maker, forms: &'a [Form]) -> Result<Child<'a>, AllocError>
     requires { AreFine (forms_of forms.now) }
-    ensures { IfOk result (λ c. Body at.0 (forms_of forms.now) (core_of c)) }
+    ensures { IfOk result (λ c. Body make.at.0 (forms_of forms.now) (core_of c)) }
 {
-    let core = body(alloc, at, forms)?;
-    Boxed::new(alloc, core)
-}
-
-// Forms of which only the last one's value is used.
-#[cycle(build)]
-fn in_turn<'a>(alloc: Global, forms: &'a [Form]) -> Result<Items<Core<'a>>, AllocError>
-    requires fine { AreFine (forms_of forms.now) }
-    requires some { 1 ≤ length forms.now }
-    ensures { IfOk result (λ cores. InTurn (forms_of forms.now) (cores_of cores)) }
-{
-    match last_of(forms) {
-        None => unreachable!(),
-        Some((before, last)) => {
-            let mut cores = each(alloc, true, before)?;
-            let core = expanded(alloc, false, last)?;
-            cores.push(core)?;
-            Ok(Items::from_vec(cores))
-        }
-    }
-}
-
-// The forms before the last, and the last.
-fn last_of(forms: &[Form]) -> Option<(&[Form], &Form)>
-    ensures { MatchOption result (forms.now ≡ []) (λ found. forms.now ≡ found.0.now ++ found.1.now ∷ []) }
-{
-    let (last, before) = forms.split_last()?;
-    Some((before, last))
+    let core = body(make, forms)?;
+    Boxed::new(make.alloc, core)
 }
 
 // Forms whose values are all dropped, or all used.
 #[cycle(build)]
+#[tactic(auto, using(crate::proofs::Weights::weight_at, crate::proofs::Fine::fine_at))]
 fn each<'a>(alloc: Global, dropped: bool, forms: &'a [Form]) -> Result<Vec<Core<'a>>, AllocError>
     requires { AreFine (forms_of forms.now) }
     ensures { IfOk result (λ cores. EachOf dropped (forms_of forms.now) (cores_of cores.items)) }
@@ -265,6 +158,7 @@ fn each<'a>(alloc: Global, dropped: bool, forms: &'a [Form]) -> Result<Vec<Core<
 
 // Bindings.
 #[cycle(build)]
+#[tactic(auto, using(crate::proofs::Weights::weight_at, crate::proofs::Fine::fine_bind_at))]
 fn all_bound<'a>(alloc: Global, forms: &'a [Form]) -> Result<Items<Bound<'a>>, AllocError>
     requires { AreFineBinds (forms_of forms.now) }
     ensures { IfOk result (λ bounds. Binds (forms_of forms.now) (bounds_of bounds)) }
@@ -283,15 +177,19 @@ fn bind<'a>(alloc: Global, form: &'a Form) -> Result<Bound<'a>, AllocError>
     requires { IsFineBind (form_of form.now) }
     ensures { IfOk result (λ b. Bind (form_of form.now) (bound_of b).0 (bound_of b).1) }
 {
-    match bind_of(form) {
-        None => unreachable!(),
-        Some(found) => match found.value {
-            None => Ok(bound_to(found.variable, nil_core(found.variable.at))),
-            Some(value) => {
-                let value = expanded(alloc, false, value)?;
-                Ok(bound_to(found.variable, value))
-            }
-        },
+    let Some(found) = bind_of(form) else {
+        unreachable!()
+    };
+    let variable = found.variable;
+    match found.value {
+        None => {
+            let at = variable.at;
+            Ok(bound_to(variable, Maker { alloc, at }.nil()))
+        }
+        Some(value) => {
+            let value = expanded(alloc, false, value)?;
+            Ok(bound_to(variable, value))
+        }
     }
 }
 
@@ -307,149 +205,117 @@ fn bound_to<'a>(variable: Symbol, value: Core<'a>) -> Bound<'a>
 
 // Clauses.
 #[cycle(build)]
-fn cond<'a>(alloc: Global, at: Offset, clauses: &'a [Form]) -> Result<Boxed<Core<'a>>, AllocError>
+#[tactic(auto, using(crate::proofs::Fine::clauses_parts, crate::proofs::Making::no_clause_made))]
+fn cond<'a>(make: Maker, clauses: &'a [Form]) -> Result<Child<'a>, AllocError>
     requires { AreFineClauses (forms_of clauses.now) }
-    ensures { IfOk result (λ c. ExpandsAs at.0 Operator.Cond (forms_of clauses.now) (core_of c)) }
+    ensures { IfOk result (λ c. Clauses make.at.0 (forms_of clauses.now) (core_of c)) }
 {
     match first_of(clauses) {
-        None => boxed_nil(alloc, at),
+        None => make.boxed_nil(),
         Some((form, others)) => {
-            let rest = cond(alloc, at, others)?;
-            let core = clause(alloc, at, form, rest)?;
-            Boxed::new(alloc, core)
+            let rest = cond(make, others)?;
+            let core = clause(make, form, rest)?;
+            Boxed::new(make.alloc, core)
         }
     }
 }
 
 // A clause, and what is built of those after it.
 #[cycle(build)]
-fn clause<'a>(
-    alloc: Global,
-    at: Offset,
-    form: &'a Form,
-    rest: Boxed<Core<'a>>,
-) -> Result<Core<'a>, AllocError>
+#[tactic(auto, using(crate::proofs::Fine::clause_parts, crate::proofs::Making::clause_alone_made))]
+fn clause<'a>(make: Maker, form: &'a Form, rest: Child<'a>) -> Made<'a>
     requires { IsFineClause (form_of form.now) }
-    ensures { (others : Data) → ExpandsAs at.0 Operator.Cond others (core_of rest.entry)
-        → IfOk result (λ c. ExpandsAs at.0 Operator.Cond (more (form_of form.now) others) (core_of c)) }
+    ensures { (others : Data) → Clauses make.at.0 others (core_of rest.entry)
+        → IfOk result (λ c. Clauses make.at.0 (more (form_of form.now) others) (core_of c)) }
 {
     match clause_of(form) {
         None => unreachable!(),
         Some((test, forms)) => match first_of(forms) {
             None => {
-                let test = expanded(alloc, false, test)?;
-                either(alloc, at, test, rest)
+                let test = expanded(make.alloc, false, test)?;
+                make.either(test, rest)
             }
             Some(_) => {
-                let test = boxed(alloc, test)?;
-                let body = boxed_body(alloc, at, forms)?;
-                Ok(conditional(at, test, body, rest))
+                let test = boxed(make.alloc, test)?;
+                let body = boxed_body(make, forms)?;
+                Ok(make.conditional(test, body, rest))
             }
         },
     }
 }
 
-// As many forms as the operator wants.
-#[cycle(build)]
-fn of_forms<'a>(
-    alloc: Global,
-    dropped: bool,
-    at: Offset,
-    operator: Operator,
-    head: Symbol,
-    forms: &'a [Form],
-) -> Result<Core<'a>, AllocError>
-    requires operator { operator ≡ operator_of head.number }
-    requires fits { allows (reading_of operator) (count (forms_of forms.now)) ≡ true }
-    requires fine { AreFine (forms_of forms.now) }
-    ensures { IfOk result (λ c. Expands dropped (applied at.0 head.at.0 head.number (forms_of forms.now)) (core_of c)) }
+// The values of some forms of `and` and `or` are dropped: of a single one, where that of the whole is.
+#[tactic(auto, using(crate::proofs::Counts::as_many))]
+fn passes(operator: Operator, dropped: bool, forms: &[Form]) -> bool
+    ensures { result ≡ passes operator dropped (count (forms_of forms.now)) }
 {
-    match way_of(operator) {
-        Way::InTurn => body(alloc, at, forms),
-        Way::Printed => {
-            let value = boxed_body(alloc, at, forms)?;
-            Ok(print(at, value))
-        }
-        Way::Tested => tested(alloc, at, operator, forms),
-        Way::Applied => called(alloc, dropped, at, operator, forms),
-        Way::BeforeBody => with_body(alloc, at, operator, forms),
-        Way::Linked => {
-            let cores = each(alloc, passes(dropped, forms), forms)?;
-            of_each(alloc, at, operator, head, cores)
-        }
-        Way::Each => {
-            let cores = each(alloc, false, forms)?;
-            of_each(alloc, at, operator, head, cores)
-        }
+    match operator {
+        Operator::And | Operator::Or => forms.len() == 1 && dropped,
+        _ => false,
     }
 }
 
-// A test, the form after it, and a body of at most one form.
-#[cycle(build)]
-fn tested<'a>(
-    alloc: Global,
-    at: Offset,
-    operator: Operator,
-    forms: &'a [Form],
-) -> Result<Core<'a>, AllocError>
-    requires way { way_of operator ≡ Way.Tested }
-    requires fits { allows (reading_of operator) (count (forms_of forms.now)) ≡ true }
+// The first of some forms that have no fault, and the others.
+fn split_first(forms: &[Form]) -> (&Form, &[Form])
     requires fine { AreFine (forms_of forms.now) }
-    ensures { IfOk result (λ c. ExpandsAs at.0 operator (forms_of forms.now) (core_of c)) }
+    requires some { 1 ≤ count (forms_of forms.now) }
+    ensures shape { forms_of forms.now ≡ more (form_of result.0.now) (forms_of result.1.now) }
+    ensures first { IsFine (form_of result.0.now) }
+    ensures others { AreFine (forms_of result.1.now) }
+    ensures size { weights (forms_of forms.now) ≡ weight (form_of result.0.now) + 1 + weights (forms_of result.1.now) }
 {
-    let Some((test, branches)) = first_of(forms) else {
-        unreachable!()
-    };
-    let Some((then, others)) = first_of(branches) else {
-        unreachable!()
-    };
-    let test = boxed(alloc, test)?;
-    let then = boxed(alloc, then)?;
-    let other = boxed_body(alloc, at, others)?;
-    Ok(conditional(at, test, then, other))
+    match first_of(forms) {
+        None => unreachable!(),
+        Some(found) => found,
+    }
 }
 
-// A call of a closure.
+// As many forms as the operator wants.
 #[cycle(build)]
-fn called<'a>(
-    alloc: Global,
+#[tactic(auto, using(crate::proofs::Making::of_ways))]
+fn of_forms<'a>(
+    make: Maker,
     dropped: bool,
-    at: Offset,
     operator: Operator,
+    head: Symbol,
     forms: &'a [Form],
-) -> Result<Core<'a>, AllocError>
-    requires way { way_of operator ≡ Way.Applied }
+) -> Made<'a>
+    requires operator { operator ≡ operator_of head.number }
     requires fits { allows (reading_of operator) (count (forms_of forms.now)) ≡ true }
     requires fine { AreFine (forms_of forms.now) }
-    ensures { IfOk result (λ c. (o w : ℕ) → operator_of w ≡ operator → Expands dropped (applied at.0 o w (forms_of forms.now)) (core_of c)) }
+    ensures { IfOk result (λ c. Expands dropped (applied make.at.0 head.at.0 head.number (forms_of forms.now)) (core_of c)) }
 {
-    let Some((function, others)) = first_of(forms) else {
-        unreachable!()
-    };
-    let fun = boxed(alloc, function)?;
-    let args = each(alloc, false, others)?;
-    Ok(funcall(at, dropped, fun, args))
-}
-
-// A form and a body.
-#[cycle(build)]
-fn with_body<'a>(
-    alloc: Global,
-    at: Offset,
-    operator: Operator,
-    forms: &'a [Form],
-) -> Result<Core<'a>, AllocError>
-    requires way { way_of operator ≡ Way.BeforeBody }
-    requires fits { allows (reading_of operator) (count (forms_of forms.now)) ≡ true }
-    requires fine { AreFine (forms_of forms.now) }
-    ensures { IfOk result (λ c. ExpandsAs at.0 operator (forms_of forms.now) (core_of c)) }
-{
-    let Some((form, others)) = first_of(forms) else {
-        unreachable!()
-    };
-    let first = boxed(alloc, form)?;
-    let body = boxed_body(alloc, at, others)?;
-    before_body(alloc, at, operator, first, body)
+    match way_of(operator) {
+        Way::InTurn => body(make, forms),
+        Way::Printed => {
+            let value = boxed_body(make, forms)?;
+            Ok(make.print(value))
+        }
+        Way::Tested => {
+            let (test, branches) = split_first(forms);
+            let (then, others) = split_first(branches);
+            let test = boxed(make.alloc, test)?;
+            let then = boxed(make.alloc, then)?;
+            let other = boxed_body(make, others)?;
+            Ok(make.conditional(test, then, other))
+        }
+        Way::Applied => {
+            let (function, others) = split_first(forms);
+            let fun = boxed(make.alloc, function)?;
+            let args = each(make.alloc, false, others)?;
+            Ok(make.funcall(dropped, fun, args))
+        }
+        Way::BeforeBody => {
+            let (form, others) = split_first(forms);
+            let first = boxed(make.alloc, form)?;
+            let body = boxed_body(make, others)?;
+            make.before_body(operator, first, body)
+        }
+        Way::Each => {
+            let cores = each(make.alloc, passes(operator, dropped, forms), forms)?;
+            make.of_each(operator, head, cores)
+        }
+    }
 }
 
 /// The parameters in a parameter list.

@@ -46,6 +46,7 @@ pub fn check_forms(text: &Text) -> Result<(), ExpandRefusal>
 }
 
 /// The program that the forms of a source expand to. It shares its constants with the source.
+#[tactic(auto, using(ql_base::specs::Refusal::none_found))]
 pub fn expand<'a>(alloc: Global, text: &'a Text) -> Result<Program<'a>, ExpandRefusal>
     // The forms expand to it, and none of them is at fault.
     ensures ok { IfOk result (λ program. ExpandsTo (forms_of text.now.forms) (program_of program)) }

@@ -47,7 +47,7 @@ fn parts_of_bindings(parts: &[Form]) -> u128
 }
 
 // How many items a list has.
-#[tactic(auto, using(crate::proofs::Counts::as_many))]
+#[tactic(auto, using(crate::proofs::Counts::item_count_is))]
 fn item_count(form: &Form) -> usize
     ensures { result ≡ item_count (form_of form.now) }
 {

@@ -87,6 +87,7 @@ pub enum Reading {
 }
 
 /// What the word with this number is. One that isn't reserved is a function.
+#[tactic(auto, unfolding(crate::specs::Operator::operator_of))]
 pub fn operator_of(number: u32) -> Operator
     ensures { result ≡ operator_of number }
 {

@@ -13,6 +13,7 @@ ghost use Rattle.ql_expand.specs.Tops.{Adds, IsFineTop, with_core, with_function
 ghost use Rattle.ql_expand.specs.View.{core_of, cores_of, function_of};
 ghost use Rattle.ql_expand.specs.declared.operator.Operator.TheVariants.{Defun, Defvar};
 
+use crate::assemble::Maker;
 use crate::build::{body, boxed, expanded, parameters};
 use crate::core_form::{Core, Function, Node};
 use crate::laws::expanded_numbers;
@@ -61,6 +62,7 @@ pub fn program_of_text<'a>(alloc: Global, text: &'a Text) -> Result<Program<'a>,
 }
 
 // What the top forms of a source make.
+#[tactic(auto, using(crate::proofs::TopForms::fine_top_at, crate::proofs::TopForms::made_next, crate::proofs::TopForms::made_all))]
 fn tops_of<'a>(alloc: Global, text: &'a Text) -> Result<Tops<'a>, AllocError>
     requires { source_faults text.now.names (forms_of text.now.forms) ≡ [] }
     ensures { IfOk result (λ t. TopForms (forms_of text.now.forms) (map function_of t.functions) t.globals (cores_of t.body)) }
@@ -80,6 +82,7 @@ fn tops_of<'a>(alloc: Global, text: &'a Text) -> Result<Tops<'a>, AllocError>
 
 impl<'a> Tops<'a> {
     // Adds what a top form adds, last.
+    #[tactic(auto, using(crate::proofs::Gathering::cores_last))]
     fn add(&mut self, top: Top<'a>) -> Result<(), AllocError>
         ensures functions { (after : List Defined) → OnOk result (map function_of self.new.functions ++ after ≡ map function_of self.old.functions ++ with_function top.entry after) }
         ensures globals { (after : List ℕ) → OnOk result (self.new.globals ++ after ≡ self.old.globals ++ with_global top.entry after) }
@@ -97,6 +100,7 @@ impl<'a> Tops<'a> {
 }
 
 // What a top form adds.
+#[tactic(auto, using(crate::proofs::TopForms::fine_definition, crate::proofs::TopForms::fine_global, crate::proofs::TopForms::fine_plain, crate::proofs::TopForms::plain_operator))]
 fn added_by<'a>(alloc: Global, form: &'a Form) -> Result<Top<'a>, AllocError>
     requires { IsFineTop (form_of form.now) }
     ensures { IfOk result (λ t. Adds (form_of form.now) t) }
@@ -112,6 +116,7 @@ fn added_by<'a>(alloc: Global, form: &'a Form) -> Result<Top<'a>, AllocError>
 }
 
 // A form that defines nothing.
+#[tactic(auto, using(crate::specs::Expands::top_form))]
 fn plain<'a>(alloc: Global, form: &'a Form) -> Result<Top<'a>, AllocError>
     requires { IsFine (form_of form.now) }
     ensures { IfOk result (λ t. Adds (form_of form.now) t) }
@@ -121,6 +126,7 @@ fn plain<'a>(alloc: Global, form: &'a Form) -> Result<Top<'a>, AllocError>
 }
 
 // A `defun` form with these parts.
+#[tactic(auto, using(crate::proofs::TopForms::definition_is, crate::specs::Expands::top_function))]
 fn definition<'a>(alloc: Global, at: Offset, parts: &'a [Form]) -> Result<Top<'a>, AllocError>
     requires { IsFineSplit (definition_by (forms_of parts.now)) }
     ensures { (o w : ℕ) → operator_of w ≡ Defun → IfOk result (λ t. Adds (applied at.0 o w (forms_of parts.now)) t) }
@@ -134,7 +140,7 @@ fn definition<'a>(alloc: Global, at: Offset, parts: &'a [Form]) -> Result<Top<'a
         unreachable!()
     };
     let params = parameters(alloc, params)?;
-    let body = body(alloc, at, forms)?;
+    let body = body(Maker { alloc, at }, forms)?;
     Ok(Top::Function(Function {
         name: name.number,
         at,
@@ -145,6 +151,7 @@ fn definition<'a>(alloc: Global, at: Offset, parts: &'a [Form]) -> Result<Top<'a
 }
 
 // A `defvar` form with these parts.
+#[tactic(auto, using(crate::proofs::TopForms::assignment_is, crate::specs::Expands::top_global))]
 fn global<'a>(alloc: Global, at: Offset, parts: &'a [Form]) -> Result<Top<'a>, AllocError>
     requires { IsFineSplit (assignment_by (forms_of parts.now)) }
     ensures { (o w : ℕ) → operator_of w ≡ Defvar → IfOk result (λ t. Adds (applied at.0 o w (forms_of parts.now)) t) }

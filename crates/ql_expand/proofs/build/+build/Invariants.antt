@@ -1,14 +1,16 @@
 use Rattle.std.proofs.Common.{◌+◌, ◌*◌}
 use Rattle.ql_forms.specs.View.{form_of, forms_of}
-use Rattle.ql_expand.proofs.Gathering.{Gathered, Bound_so_far}
-use Rattle.ql_expand.proofs.Weights.{weight, weights}
+use Rattle.ql_expand.specs.Expands.{Binds}
+use Rattle.ql_expand.proofs.Gathering.{with_cores, with_bounds}
+use Rattle.ql_expand.proofs.Loops.{SoFar}
+use Rattle.ql_expand.specs.Building.{EachOf, weight, weights}
 use Rattle.ql_expand.proofs.build.+build.Given as goal
 
 abbrev pub invariant-each-loop-form : goal.invariant-each-loop-form
-invariant-each-loop-form l = Gathered l.dropped l.forms l.form-index l.cores.items
+invariant-each-loop-form l = SoFar (EachOf l.dropped) with_cores l.forms l.form-index l.cores.items
 
 abbrev pub invariant-all_bound-loop-form : goal.invariant-all_bound-loop-form
-invariant-all_bound-loop-form l = Bound_so_far l.forms l.form-index l.bounds.items
+invariant-all_bound-loop-form l = SoFar Binds with_bounds l.forms l.form-index l.bounds.items
 
 abbrev pub decreases-expanded : goal.decreases-expanded
 decreases-expanded l = 8 * weight (form_of l.form.now) + 7
@@ -22,44 +24,17 @@ decreases-bind l = 8 * weight (form_of l.form.now) + 7
 abbrev pub decreases-clause : goal.decreases-clause
 decreases-clause l = 8 * weight (form_of l.form.now) + 7
 
-abbrev pub decreases-assigned : goal.decreases-assigned
-decreases-assigned l = 8 * weight (form_of l.value.now) + 9
-
 abbrev pub decreases-applied : goal.decreases-applied
 decreases-applied l = 8 * weights (forms_of l.parts.now) + 20
 
 abbrev pub decreases-of_forms : goal.decreases-of_forms
 decreases-of_forms l = 8 * weights (forms_of l.forms.now) + 19
 
-abbrev pub decreases-bound : goal.decreases-bound
-decreases-bound l = 8 * (weights (forms_of l.binds.now) + weights (forms_of l.body.now)) + 15
-
-abbrev pub decreases-bound_apart : goal.decreases-bound_apart
-decreases-bound_apart l = 8 * (weight (form_of l.form.now) + 1 + (weights (forms_of l.binds.now) + weights (forms_of l.body.now))) + 15
-
-abbrev pub decreases-closed : goal.decreases-closed
-decreases-closed l = 8 * weights (forms_of l.body.now) + 15
-
-abbrev pub decreases-closed_apart : goal.decreases-closed_apart
-decreases-closed_apart l = 8 * (weight (form_of l.form.now) + 1 + weights (forms_of l.body.now)) + 15
-
-abbrev pub decreases-tested : goal.decreases-tested
-decreases-tested l = 8 * weights (forms_of l.forms.now) + 15
-
-abbrev pub decreases-called : goal.decreases-called
-decreases-called l = 8 * weights (forms_of l.forms.now) + 15
-
-abbrev pub decreases-with_body : goal.decreases-with_body
-decreases-with_body l = 8 * weights (forms_of l.forms.now) + 15
-
 abbrev pub decreases-boxed_body : goal.decreases-boxed_body
 decreases-boxed_body l = 8 * weights (forms_of l.forms.now) + 14
 
 abbrev pub decreases-body : goal.decreases-body
 decreases-body l = 8 * weights (forms_of l.forms.now) + 13
-
-abbrev pub decreases-in_turn : goal.decreases-in_turn
-decreases-in_turn l = 8 * weights (forms_of l.forms.now) + 12
 
 abbrev pub decreases-each : goal.decreases-each
 decreases-each l = 8 * weights (forms_of l.forms.now) + 11

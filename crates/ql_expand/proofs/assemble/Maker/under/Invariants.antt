@@ -1,10 +1,10 @@
 use Rattle.std.proofs.Common.{◌≡◌, length}
 use Rattle.ql_expand.specs.Assembly.{under}
 use Rattle.ql_expand.specs.View.{core_of, bounds_of}
-use Rattle.ql_expand.proofs.assemble.under.Given as goal
+use Rattle.ql_expand.proofs.assemble.Maker.under.Given as goal
 
 abbrev pub invariant-loop-bind : goal.invariant-loop-bind
-invariant-loop-bind l = under l.at.0 (bounds_of l.before) (core_of l.whole) ≡ under l.at.0 (bounds_of l.fn.binds) (core_of l.fn.body)
+invariant-loop-bind l = under l.self.at.0 (bounds_of l.before) (core_of l.whole) ≡ under l.self.at.0 (bounds_of l.fn.binds) (core_of l.fn.body)
 
 abbrev pub decreases-loop-bind : goal.decreases-loop-bind
 decreases-loop-bind l = length l.before
