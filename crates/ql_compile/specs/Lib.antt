@@ -1,3 +1,4 @@
 mod Emission
+mod Emitting
 pub mod Compile
 pub mod Laws

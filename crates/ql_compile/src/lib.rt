@@ -6,6 +6,8 @@ pub mod compile;
 mod emit;
 mod frame;
 pub mod laws;
+mod lookup;
 mod measure;
+mod output;
 mod quotes;
 mod table;

@@ -34,7 +34,7 @@ impl Quotes {
 
     /// The word of a constant.
     pub fn word(&self, constant: Constant) -> Word
-        ensures { (x : Context) → HasWords x self.now.words.entries → result ≡ constant_word x (constant_of constant) }
+        ensures { (x : Context) → HasWords x self.now.words.entries → result ≡ constant_word x (constant_of constant.entry) }
     {
         Word::Sym(0)
     }
