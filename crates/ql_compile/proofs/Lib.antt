@@ -9,6 +9,7 @@ mod Compilable
 mod CompiledIsSound
 mod CompiledIsStrict
 mod Descends
+mod Emitting
 mod Examples
 mod Fine
 mod FineOf

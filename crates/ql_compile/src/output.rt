@@ -1,6 +1,6 @@
 //! Instructions that are added one after another, and that may be changed later.
 
-ghost use Rattle.std.specs.Prelude.{◌≡◌, ◌++◌, ◌∷◌, [], List, IfOk, OnOk, length};
+ghost use Rattle.std.specs.Prelude.{◌≡◌, ◌<◌, ◌++◌, ◌∷◌, [], List, IfOk, OnErr, OnOk, length, slice_set};
 ghost use Rattle.ql_code.specs.Code.{Instruction, instruction, instructions_of};
 
 use ql_base::numbers::Offset;
@@ -48,10 +48,10 @@ impl Output {
     pub fn push(&mut self, op: Op, at: Offset) -> Result<(), AllocError>
         ensures { OnOk result (self.new ≡ self.old ++ instruction op at.0 ∷ []) }
     {
-        self.offsets.push(at)?;
-        if self.ops.push(op).is_err() {
+        push_one(&mut self.offsets, at)?;
+        if let Err(error) = push_one(&mut self.ops, op) {
             self.offsets.pop();
-            return Err(AllocError);
+            return Err(error);
         }
         Ok(())
     }
@@ -61,7 +61,7 @@ impl Output {
         ensures { (before after : List Instruction) (i : Instruction) → self.old ≡ before ++ i ∷ after → place ≡ length before → self.new ≡ before ++ instruction op i.at ∷ after }
     {
         if place < self.ops.len() {
-            self.ops[place] = op;
+            put(&mut self.ops, place, op);
         }
     }
 
@@ -73,6 +73,23 @@ impl Output {
         let Output { ops, offsets } = self;
         (ops, offsets)
     }
+}
+
+// One item more. Where there is no memory for it, it is dropped.
+fn push_one<T: Drop>(items: &mut Vec<T>, item: T) -> Result<(), AllocError>
+    ensures ok { OnOk result (items.new.items ≡ items.old.items ++ item ∷ []) }
+    ensures err { OnErr result (items.new.items ≡ items.old.items) }
+{
+    items.push(item)?;
+    Ok(())
+}
+
+// Another item at this index.
+fn put<T: Drop>(items: &mut Vec<T>, at: usize, item: T)
+    requires { at < length items.old.items }
+    ensures { items.new.items ≡ slice_set items.old.items at item }
+{
+    items[at] = item;
 }
 
 /// A place, a slot or a count. One that doesn't fit is answered as want of memory: a program whose code is short enough
