@@ -8,6 +8,7 @@ mod Checked
 mod Compilable
 mod CompiledIsSound
 mod CompiledIsStrict
+mod Counts
 mod Descends
 mod Emitting
 mod Examples
@@ -17,6 +18,7 @@ mod Fitting
 mod Follows
 mod Gives
 mod Goes
+mod Instructions
 mod Noted
 mod ProgramIsFine
 mod Relation

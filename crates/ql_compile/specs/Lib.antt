@@ -1,4 +1,4 @@
-mod Emission
-mod Emitting
+pub mod Emission
+pub mod Emitting
 pub mod Compile
 pub mod Laws

@@ -1,6 +1,6 @@
 use Rattle.std.proofs.Common.{◌≡◌, length, ap, arith}
 use Rattle.ql_code.specs.Code.{instructions_of}
-use Rattle.ql_compile.proofs.Emitting.{as_long}
+use Rattle.ql_compile.proofs.Instructions.{as_long}
 use Rattle.ql_compile.proofs.output.Output.len.Goals as goal
 
 pub returns : goal.returns

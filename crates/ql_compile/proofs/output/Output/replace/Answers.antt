@@ -1,6 +1,6 @@
 use Rattle.std.proofs.Common.{◌≡◌, ◌∙◌, ◌++◌, ◌∷◌, length, ap, arith, length-append}
 use Rattle.ql_code.specs.Code.{Instruction, instructions_of}
-use Rattle.ql_compile.proofs.Emitting.{as_long, changed}
+use Rattle.ql_compile.proofs.Instructions.{as_long, changed}
 use Rattle.ql_compile.proofs.output.Output.replace.Goals as goal
 
 pub returns-then-place-len : goal.returns-then-place-len
