@@ -15,7 +15,7 @@ use Rattle.ql_compile.specs.declared.emit.Emitter.{Emitter}
 use Rattle.ql_compile.proofs.Counts.{starts_length}
 use Rattle.ql_compile.proofs.Sizes.{long, long_cores, long_joined, long_values}
 
-abbrev with_output : Emitter → List Instruction → Emitter
+abbrev pub with_output : Emitter → List Instruction → Emitter
 with_output e is = record e { output = is }
 
 pub and_then : (a b c : Emitter) (X Y : List Instruction) → b ≡ followed a X → c ≡ followed b Y → c ≡ followed a (X ++ Y)
@@ -55,7 +55,7 @@ patched a g h X Y Z i place op x p fill =
     fill split (p ∙ sym (length-append a.output X))
     ∙ (ap (λ e. with_output e ((a.output ++ X) ++ instruction op i.at ∷ Z)) x ∙ ap (with_output a) (append_assoc a.output X (instruction op i.at ∷ Z)))
 
-abbrev hole : ℕ → Instruction
+abbrev pub hole : ℕ → Instruction
 hole at = instruction end at
 
 pub conditional_code : (at : ℕ) (A B C : Core) (a b c d e f g h : Emitter) (u v : ℕ)

@@ -16,9 +16,11 @@ mod Fine
 mod FineOf
 mod Fitting
 mod Follows
+mod Framed
 mod Gives
 mod Goes
 mod Instructions
+mod Nodes
 mod Noted
 mod ProgramIsFine
 mod Relation
