@@ -1,6 +1,7 @@
 -- Steps of the emitter under other slots, and in loops.
 use Rattle.std.proofs.Common.{◌≡◌, ℕ, zero, suc, ◌+◌, ◌<◌, ◌==◌, Result, Bool, true, false, List, [], ◌∷◌, ◌++◌, length, map, drop, Some, None, refl, ap, sym, ◌∙◌, subst, arith, add-one, append_assoc, append-nil, length-append, length-drop, ◌-◌}
 use Rattle.std.specs.Prelude.{OnOk, nat_lt}
+use Rattle.std.proofs.lemmas.Bool.Decides.{nat_tests}
 use Rattle.std.proofs.lemmas.Result.{on_ok_weaker}
 use Rattle.ql_expand.specs.Core.{Binder, Core, Cores, no_cores, and_core, Bounds, no_bounds, and_bound, Function, function}
 use Rattle.ql_expand.specs.View.{core_of, cores_of}

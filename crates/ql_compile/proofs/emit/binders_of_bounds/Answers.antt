@@ -1,39 +1,26 @@
-use Rattle.std.proofs.Common.{rules, ◌≡◌, ◌+◌, ◌++◌, ◌∷◌, [], None, false, true, List, length, IfOk, OnOk, map, ℕ, ◌-◌, ◌*◌, ◌<◌, ◌≤◌, ◌/◌, ◌%◌, Bool, nat_eq, nat_lt, slice_index_or, slice_set, bit_and, bit_or, Fits, w8, w32, w64, Bor, MutBor}
-use Rattle.ql_base.specs.declared.numbers.Offset.{Offset as OffsetOf}
-use Rattle.ql_expand.specs.ProgramView.{program_of}
-use Rattle.ql_expand.specs.View.{binders_of, bounds_of, constant_of, core_of, cores_of, function_of, name_of, node_of}
-use Rattle.ql_expand.specs.Core.{constant, variable}
+use Rattle.std.proofs.Common.{◌≡◌, ◌∙◌, ◌+◌, ◌<◌, ◌++◌, ◌∷◌, [], sym, ap, append-nil, append_assoc, arith, length, drop}
+use Rattle.std.proofs.lemmas.List.{drop_all, map-append}
+use Rattle.ql_expand.specs.View.{binder_of, binders_of, bounds_of}
 use Rattle.ql_scope.specs.Scope.{binders_in}
-use Rattle.ql_code.specs.Code as spec
-use Rattle.ql_code.specs.Code.{Instruction, instruction}
-use Rattle.ql_code.specs.declared.code.Op.TheVariants.{Bind as bind}
-use Rattle.ql_code.specs.declared.code.Op.TheVariants.{Branch as branch}
-use Rattle.ql_code.specs.declared.code.Op.TheVariants.{Catch as catch}
-use Rattle.ql_code.specs.declared.code.Op.TheVariants.{End as end}
-use Rattle.ql_code.specs.declared.code.Op.TheVariants.{Exit as exit}
-use Rattle.ql_code.specs.declared.code.Op.TheVariants.{Funcall as funcall}
-use Rattle.ql_code.specs.declared.code.Op.TheVariants.{FuncallDrop as funcall_drop}
-use Rattle.ql_code.specs.declared.code.Op.TheVariants.{Join as join}
-use Rattle.ql_code.specs.declared.code.Op.TheVariants.{Jump as jump}
-use Rattle.ql_code.specs.declared.code.Op.TheVariants.{Leave as leave}
-use Rattle.ql_code.specs.declared.code.Op.TheVariants.{Protect as protect}
-use Rattle.ql_code.specs.declared.code.Op.TheVariants.{Qcatch as qcatch}
-use Rattle.ql_code.specs.declared.code.Op.TheVariants.{Qlet as qlet}
-use Rattle.ql_code.specs.declared.code.Op.TheVariants.{Return as return}
-use Rattle.ql_code.specs.declared.code.Op.TheVariants.{Slide as slide}
-use Rattle.ql_code.specs.declared.code.Op.TheVariants.{Touch as touch}
-use Rattle.ql_meaning.specs.Context.{context_of, stored_among}
-use Rattle.ql_compile.specs.Compile.{Scope, body_scope, captured, caught_slots, entry_of, find_in, instructions_of, mask, places_of, primitive_op, call_op, place_called, read_op, starts_of, with_variables, write_op}
+use Rattle.ql_scope.proofs.Added.{drop_is}
+use Rattle.ql_scope.proofs.Opened.{bound_opened}
 use Rattle.ql_compile.proofs.emit.binders_of_bounds.Goals as goal
 
--- src/emit.rt:596:5
 pub loop-bound-init : goal.loop-bound-init
-loop-bound-init c = ?
+loop-bound-init c = ap (λ bs. binders_of bs ++ binders_in (bounds_of c.args.binds.now)) c.in_ok-binders.ensures.items
 
--- src/emit.rt:596:5
 pub loop-bound-preserved : goal.loop-bound-preserved
-loop-bound-preserved c = ?
+loop-bound-preserved c =
+    let i = c.loop-bound.bound-index in
+    let at : i < length c.args.binds.now = omega arith in
+    let here = drop_is c.args.binds.now i c.bound-item.result at c.bound-item.is in
+    let b = binder_of c.bound-item.result.binder in
+    let rest = binders_in (bounds_of (drop (i + 1) c.args.binds.now)) in
+    ap (λ bs. binders_of bs ++ rest) c.in_ok-push.ensures.items
+    ∙ (ap (λ bs. bs ++ rest) (map-append binder_of c.loop-bound.binders.items (c.bound-item.result.binder ∷ []))
+    ∙ (append_assoc (binders_of c.loop-bound.binders.items) (b ∷ []) rest ∙ (rw (here, bound_opened c.bound-item.result) at c.loop-bound.invariant)))
 
--- src/emit.rt:592:1
 pub returns : goal.returns
-returns c = ?
+returns c =
+    let none = drop_all c.loop-bound.bound-index c.args.binds.now c.loop-bound-test.false in
+    sym (append-nil (binders_of c.loop-bound.binders.items)) ∙ (rw none at c.loop-bound.invariant)

@@ -1,16 +1,17 @@
-use Rattle.std.proofs.Common.{◌≡◌, ◌∙◌, ◌+◌, ◌<◌, ◌++◌, ◌∷◌, [], refl, sym, ap, arith, length, drop, add-one}
+use Rattle.std.proofs.Common.{◌≡◌, ◌∙◌, ◌+◌, ◌<◌, ◌++◌, ◌∷◌, [], None, refl, sym, ap, append-nil, arith, length, drop}
 use Rattle.std.proofs.lemmas.List.{drop_all}
 use Rattle.std.proofs.lemmas.Result.{on_ok_weaker}
 use Rattle.ql_expand.specs.View.{core_of, cores_of, binder_of, binders_of, bounds_of, name_of}
+use Rattle.ql_expand.specs.Core.{and_core, and_bound}
 use Rattle.ql_expand.specs.declared.core_form.VarName.TheVariants.{Sym}
 use Rattle.ql_scope.specs.Scope.{binders_in}
 use Rattle.ql_code.specs.Code.{instruction}
-use Rattle.ql_code.specs.declared.code.Op.TheVariants.{Catch, Print, Qcatch}
+use Rattle.ql_code.specs.declared.code.Op.TheVariants.{Catch, Join, Qcatch}
 use Rattle.ql_scope.proofs.Added.{drop_is}
 use Rattle.ql_scope.proofs.Opened.{opened, bound_opened, if_is, let_is, call_is, funcall_is, qlet_is, qlambda_is, catch_is, qcatch_is, throw_is, protect_is}
 use Rattle.ql_meaning.specs.Context.{offset_of}
-use Rattle.ql_compile.specs.Compile.{call_op, find_in, place_called, primitive_op, write_op}
-use Rattle.ql_compile.specs.Emitting.{context_in, core_code, cores_code, joined_code, just, places_in, values_code, within}
+use Rattle.ql_compile.specs.Compile.{call_op, find_in, place_called, starts_of, write_op}
+use Rattle.ql_compile.specs.Emitting.{context_in, core_code, followed, cores_code, joined_code, just, places_in, values_code, within}
 use Rattle.ql_compile.proofs.Counts.{binders_length, bounds_length}
 use Rattle.ql_compile.proofs.Nodes.{defvar_is, primitive_is, print_is}
 use Rattle.ql_compile.proofs.Emitting.{and_then, binding_code, caught_code, conditional_code, emits_more, funcall_code, more_then, protect_code, qlambda_code, qlet_code, throw_code}
@@ -114,10 +115,16 @@ joined-returns-clause-code t c =
     rest_none c.args.self.now c.loop-bound.self _ c.loop-bound.bound-index c.len-outer.result c.keep.new.self c.loop-bound.invariant.frame c.len-outer.ensures c.keep.ensures (rw none at c.loop-bound.invariant.rest)
 
 pub forms-loop-i-init : goal.forms-loop-i-init
-forms-loop-i-init t c = ?
+forms-loop-i-init t c = ap (followed c.args.self.now) (some_left c.args.at.0 c.args.forms.now c.args.self.now (sym c.if-is_empty.ensures))
 
 pub forms-loop-i-preserved : goal.forms-loop-i-preserved
-forms-loop-i-preserved t c = ?
+forms-loop-i-preserved t c =
+    let i = c.loop-i.i in
+    let cs = c.args.forms.now in
+    let at : i < length cs = omega arith in
+    let here = drop_is cs i c.index-forms-i.result at c.index-forms-i.is in
+    let place : offset_of (core_of c.index-forms-i.result) ≡ c.index-forms-i.result.at.0 = ap offset_of (opened c.index-forms-i.result) in
+    form_one c.args.at.0 c.index-forms-i.result (drop (i + 1) cs) c.loop-i.self c.core.new.self c.drop_if.new.self _ _ (some_more cs (i + 1)) c.in_ok-core.ensures (rw place c.in_ok-drop_if.ensures) (rw here at c.loop-i.invariant)
 
 pub forms-returns : goal.forms-returns
 forms-returns t c =
@@ -126,7 +133,7 @@ forms-returns t c =
 
 pub node-returns-in_ok-core-in-If-3 : goal.node-returns-in_ok-core-in-If-3
 node-returns-in_ok-core-in-If-3 t c =
-    let step = on_ok_weaker c.jump_here.result (conditional_code c.args.at.0 _ _ _ c.args.self.now c.core-in-If.new.self c.hole.new.self c.core-in-If-2.new.self c.hole-in-If.new.self c.branch_here.new.self c.core-in-If-3.new.self c.jump_here.new.self c.in_ok-branch-in-If.branch c.in_ok-jump-in-If.jump
+    let step = on_ok_weaker c.jump_here.result (conditional_code c.args.at.0 (core_of c.get-in-If.result.now) (core_of c.get-in-If-2.result.now) (core_of c.get-in-If-3.result.now) c.args.self.now c.core-in-If.new.self c.hole.new.self c.core-in-If-2.new.self c.hole-in-If.new.self c.branch_here.new.self c.core-in-If-3.new.self c.jump_here.new.self c.in_ok-branch-in-If.branch c.in_ok-jump-in-If.jump
         c.in_ok-core-in-If.ensures c.in_ok-branch-in-If.ensures.place c.in_ok-branch-in-If.ensures.hole c.in_ok-core-in-If-2.ensures c.in_ok-jump-in-If.ensures.place c.in_ok-jump-in-If.ensures.hole c.in_ok-branch_here-in-If.ensures c.in_ok-core-in-If-3.ensures) c.jump_here.ensures in
     rw (c.in-If.is, if_is c.in-If.test c.in-If.then c.in-If.other) (rw (c.get-in-If.ensures, c.get-in-If-2.ensures, c.get-in-If-3.ensures) at step)
 

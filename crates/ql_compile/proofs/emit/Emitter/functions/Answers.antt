@@ -1,43 +1,27 @@
-use Rattle.std.proofs.Common.{rules, ◌≡◌, ◌+◌, ◌++◌, ◌∷◌, [], None, false, true, List, length, IfOk, OnOk, map, ℕ, ◌-◌, ◌*◌, ◌<◌, ◌≤◌, ◌/◌, ◌%◌, Bool, nat_eq, nat_lt, slice_index_or, slice_set, bit_and, bit_or, Fits, w8, w32, w64, Bor, MutBor}
-use Rattle.ql_base.specs.declared.numbers.Offset.{Offset as OffsetOf}
-use Rattle.ql_expand.specs.ProgramView.{program_of}
-use Rattle.ql_expand.specs.View.{binders_of, bounds_of, constant_of, core_of, cores_of, function_of, name_of, node_of}
-use Rattle.ql_expand.specs.Core.{constant, variable}
-use Rattle.ql_scope.specs.Scope.{binders_in}
-use Rattle.ql_code.specs.Code as spec
-use Rattle.ql_code.specs.Code.{Instruction, instruction}
-use Rattle.ql_code.specs.declared.code.Op.TheVariants.{Bind as bind}
-use Rattle.ql_code.specs.declared.code.Op.TheVariants.{Branch as branch}
-use Rattle.ql_code.specs.declared.code.Op.TheVariants.{Catch as catch}
-use Rattle.ql_code.specs.declared.code.Op.TheVariants.{End as end}
-use Rattle.ql_code.specs.declared.code.Op.TheVariants.{Exit as exit}
-use Rattle.ql_code.specs.declared.code.Op.TheVariants.{Funcall as funcall}
-use Rattle.ql_code.specs.declared.code.Op.TheVariants.{FuncallDrop as funcall_drop}
-use Rattle.ql_code.specs.declared.code.Op.TheVariants.{Join as join}
-use Rattle.ql_code.specs.declared.code.Op.TheVariants.{Jump as jump}
-use Rattle.ql_code.specs.declared.code.Op.TheVariants.{Leave as leave}
-use Rattle.ql_code.specs.declared.code.Op.TheVariants.{Protect as protect}
-use Rattle.ql_code.specs.declared.code.Op.TheVariants.{Qcatch as qcatch}
-use Rattle.ql_code.specs.declared.code.Op.TheVariants.{Qlet as qlet}
-use Rattle.ql_code.specs.declared.code.Op.TheVariants.{Return as return}
-use Rattle.ql_code.specs.declared.code.Op.TheVariants.{Slide as slide}
-use Rattle.ql_code.specs.declared.code.Op.TheVariants.{Touch as touch}
-use Rattle.ql_meaning.specs.Context.{context_of, stored_among}
-use Rattle.ql_compile.specs.Compile.{Scope, body_scope, captured, caught_slots, entry_of, find_in, instructions_of, mask, places_of, primitive_op, call_op, place_called, read_op, starts_of, with_variables, write_op}
+use Rattle.std.proofs.Common.{◌≡◌, ◌∙◌, ◌+◌, ◌<◌, refl, ap, arith, length, drop, map}
+use Rattle.std.proofs.lemmas.List.{drop_all}
+use Rattle.ql_expand.specs.View.{function_of}
+use Rattle.ql_scope.proofs.Added.{drop_is}
+use Rattle.ql_compile.proofs.Framed.{function_one, nothing_left}
 use Rattle.ql_compile.proofs.emit.Emitter.functions.Goals as goal
 
--- src/emit.rt:109:9
 pub loop-function-init : goal.loop-function-init
-loop-function-init c = ?
+loop-function-init c = record { frame = c.requires; rest = refl }
 
--- src/emit.rt:110:13
 pub function-requires : goal.function-requires
-function-requires c = ?
+function-requires c = c.loop-function.invariant.frame
 
--- src/emit.rt:109:9
 pub loop-function-preserved : goal.loop-function-preserved
-loop-function-preserved c = ?
+loop-function-preserved c =
+    let i = c.loop-function.function-index in
+    let at : i < length c.args.functions.now = omega arith in
+    let here = drop_is c.args.functions.now i c.function-item.result at c.function-item.is in
+    record {
+      frame = ap (λ e. e.frame) c.in_ok-function.ensures ∙ c.loop-function.invariant.frame;
+      rest = function_one (function_of c.function-item.result) (map function_of (drop (i + 1) c.args.functions.now)) c.loop-function.self c.function.new.self _ c.in_ok-function.ensures (rw here at c.loop-function.invariant.rest);
+    }
 
--- src/emit.rt:105:5
 pub returns : goal.returns
-returns c = ?
+returns c =
+    let none = drop_all c.loop-function.function-index c.args.functions.now c.loop-function-test.false in
+    nothing_left c.loop-function.self _ (rw none at c.loop-function.invariant.rest)

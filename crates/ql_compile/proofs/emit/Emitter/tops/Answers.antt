@@ -1,39 +1,27 @@
-use Rattle.std.proofs.Common.{rules, ◌≡◌, ◌+◌, ◌++◌, ◌∷◌, [], None, false, true, List, length, IfOk, OnOk, map, ℕ, ◌-◌, ◌*◌, ◌<◌, ◌≤◌, ◌/◌, ◌%◌, Bool, nat_eq, nat_lt, slice_index_or, slice_set, bit_and, bit_or, Fits, w8, w32, w64, Bor, MutBor}
-use Rattle.ql_base.specs.declared.numbers.Offset.{Offset as OffsetOf}
-use Rattle.ql_expand.specs.ProgramView.{program_of}
-use Rattle.ql_expand.specs.View.{binders_of, bounds_of, constant_of, core_of, cores_of, function_of, name_of, node_of}
-use Rattle.ql_expand.specs.Core.{constant, variable}
-use Rattle.ql_scope.specs.Scope.{binders_in}
-use Rattle.ql_code.specs.Code as spec
-use Rattle.ql_code.specs.Code.{Instruction, instruction}
-use Rattle.ql_code.specs.declared.code.Op.TheVariants.{Bind as bind}
-use Rattle.ql_code.specs.declared.code.Op.TheVariants.{Branch as branch}
-use Rattle.ql_code.specs.declared.code.Op.TheVariants.{Catch as catch}
-use Rattle.ql_code.specs.declared.code.Op.TheVariants.{End as end}
-use Rattle.ql_code.specs.declared.code.Op.TheVariants.{Exit as exit}
-use Rattle.ql_code.specs.declared.code.Op.TheVariants.{Funcall as funcall}
-use Rattle.ql_code.specs.declared.code.Op.TheVariants.{FuncallDrop as funcall_drop}
-use Rattle.ql_code.specs.declared.code.Op.TheVariants.{Join as join}
-use Rattle.ql_code.specs.declared.code.Op.TheVariants.{Jump as jump}
-use Rattle.ql_code.specs.declared.code.Op.TheVariants.{Leave as leave}
-use Rattle.ql_code.specs.declared.code.Op.TheVariants.{Protect as protect}
-use Rattle.ql_code.specs.declared.code.Op.TheVariants.{Qcatch as qcatch}
-use Rattle.ql_code.specs.declared.code.Op.TheVariants.{Qlet as qlet}
-use Rattle.ql_code.specs.declared.code.Op.TheVariants.{Return as return}
-use Rattle.ql_code.specs.declared.code.Op.TheVariants.{Slide as slide}
-use Rattle.ql_code.specs.declared.code.Op.TheVariants.{Touch as touch}
-use Rattle.ql_meaning.specs.Context.{context_of, stored_among}
-use Rattle.ql_compile.specs.Compile.{Scope, body_scope, captured, caught_slots, entry_of, find_in, instructions_of, mask, places_of, primitive_op, call_op, place_called, read_op, starts_of, with_variables, write_op}
+use Rattle.std.proofs.Common.{◌≡◌, ◌∙◌, ◌+◌, ◌<◌, refl, ap, arith, length, drop}
+use Rattle.std.proofs.lemmas.List.{drop_all}
+use Rattle.ql_expand.specs.View.{core_of, cores_of}
+use Rattle.ql_meaning.specs.Context.{offset_of}
+use Rattle.ql_scope.proofs.Added.{drop_is}
+use Rattle.ql_scope.proofs.Opened.{opened}
+use Rattle.ql_compile.proofs.Framed.{nothing_left, top_one}
 use Rattle.ql_compile.proofs.emit.Emitter.tops.Goals as goal
 
--- src/emit.rt:97:9
 pub loop-core-init : goal.loop-core-init
-loop-core-init c = ?
+loop-core-init c = record { frame = c.requires; rest = refl }
 
--- src/emit.rt:97:9
 pub loop-core-preserved : goal.loop-core-preserved
-loop-core-preserved c = ?
+loop-core-preserved c =
+    let i = c.loop-core.core-index in
+    let at : i < length c.args.cores.now = omega arith in
+    let here = drop_is c.args.cores.now i c.core-item.result at c.core-item.is in
+    let place : offset_of (core_of c.core-item.result) ≡ c.core-item.result.at.0 = ap offset_of (opened c.core-item.result) in
+    record {
+      frame = ap (λ e. e.frame) c.in_ok-add.ensures ∙ (ap (λ e. e.frame) c.in_ok-core.ensures ∙ c.loop-core.invariant.frame);
+      rest = top_one (core_of c.core-item.result) (cores_of (drop (i + 1) c.args.cores.now)) c.loop-core.self c.core.new.self c.add.new.self _ c.loop-core.invariant.frame c.in_ok-core.ensures (rw place c.in_ok-add.ensures) (rw here at c.loop-core.invariant.rest);
+    }
 
--- src/emit.rt:93:5
 pub returns : goal.returns
-returns c = ?
+returns c =
+    let none = drop_all c.loop-core.core-index c.args.cores.now c.loop-core-test.false in
+    nothing_left c.loop-core.self _ (rw none at c.loop-core.invariant.rest)
