@@ -8,8 +8,8 @@ use Rattle.ql_expand.specs.View.{core_of, cores_of}
 use Rattle.ql_expand.specs.declared.core_form.Core.{Core as CoreValue}
 use Rattle.ql_meaning.specs.Context.{name_of, offset_of, stored_among}
 use Rattle.ql_code.specs.Code.{Instruction, instruction}
-use Rattle.ql_code.specs.declared.code.Op.TheVariants.{Bind as bind, Drop as drop_op, Join as join, Return as return, Slide as slide}
-use Rattle.ql_compile.specs.Compile.{Scope, body_scope, captured, caught_slots, code, code_of_cores, code_of_forms, code_of_functions, code_of_joined, code_of_tops, code_of_values, mask, places_from, size, size_of_function, starts_of, with_variables}
+use Rattle.ql_code.specs.declared.code.Op.TheVariants.{Bind as bind, Drop as drop_op, End as end, Join as join, Return as return, Slide as slide}
+use Rattle.ql_compile.specs.Compile.{Scope, body_scope, captured, caught_slots, code, code_of_cores, code_of_forms, code_of_functions, code_of_joined, code_of_tops, code_of_values, mask, places_from, size, size_of_function, size_of_tops, starts_of, with_variables}
 use Rattle.ql_compile.specs.Emitting.{Binds, Emits, closing, closure_code, context_in, core_code, cores_code, dropped, followed, forms_code, function_code, functions_code, joined_code, just, places_in, tops_code, under_code, values_code, within}
 use Rattle.ql_compile.specs.declared.emit.Emitter.{Emitter}
 use Rattle.ql_compile.proofs.Emitting.{and_then, emits_then, far, hole, same_code, with_output}
@@ -233,3 +233,28 @@ function_codes at l o ps C a c d pushed kept outer hf ho hp ec ed keep =
     let d1 : d ≡ within (followed (followed a K) (instruction return at ∷ [])) V = ed ∙ ap (λ e. followed e (instruction return at ∷ [])) c1 in
     let back : kept ≡ [] = keep V [] (ap (λ e. e.frame) d1 ∙ sym (append-nil V)) (ho ∙ ap (λ sc. length sc) hf) in
     ap (within d) (back ∙ sym hf) ∙ (ap (λ e. within e a.frame) d1 ∙ ap (with_output a) (append_assoc a.output K (instruction return at ∷ [])))
+
+tops_length : (e : Emitter) (pc : ℕ) (cs : Cores) → length (code_of_tops (context_in e) (places_in e) pc cs) ≡ size_of_tops cs
+tops_length e pc no_cores = refl
+tops_length e pc (and_core C cs) =
+    let k = long (context_in e) (places_in e) [] pc C in
+    let rest = tops_length e (pc + size C + 1) cs in
+    omega (arith, k, rest, length-append {A = Instruction})
+
+-- the whole code
+pub whole_code : (cs : Cores) (fs : List Function) (a b c d : Emitter) → a.output ≡ [] → Emits a b (tops_code cs) → Emits b c (just end 0) → Emits c d (functions_code fs)
+    → d.output ≡ code_of_tops (context_in a) (places_in a) 0 cs ++ instruction end 0 ∷ code_of_functions (context_in a) (places_in a) (places_from (size_of_tops cs + 1) fs)
+whole_code cs fs a b c d none ea eb ec =
+    let x = context_in a in
+    let p = places_in a in
+    let T = tops_code cs a in
+    let i : Instruction = instruction end 0 in
+    let c1 : c ≡ followed a (T ++ i ∷ []) = and_then a b c T (i ∷ []) ea eb in
+    let d1 : d ≡ followed a ((T ++ i ∷ []) ++ functions_code fs (followed a (T ++ i ∷ []))) = emits_then (functions_code fs) a c d (T ++ i ∷ []) c1 ec in
+    let T0 = code_of_tops x p 0 cs in
+    let k : length T0 ≡ size_of_tops cs = tops_length a 0 cs in
+    let place : length (T0 ++ i ∷ []) ≡ size_of_tops cs + 1 = omega (arith, k, length-append {A = Instruction}) in
+    let F = λ (n : ℕ). code_of_functions x p (places_from n fs) in
+    ap (λ e. e.output) d1
+    ∙ (ap (λ o. o ++ ((code_of_tops x p (length o) cs ++ i ∷ []) ++ F (length (o ++ (code_of_tops x p (length o) cs ++ i ∷ []))))) none
+    ∙ (append_assoc T0 (i ∷ []) (F (length (T0 ++ i ∷ []))) ∙ ap (λ n. T0 ++ i ∷ F n) place))
