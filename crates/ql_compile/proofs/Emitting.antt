@@ -105,7 +105,7 @@ binding_code at bs C a b c ea eb =
     let place : length (a.output ++ V) ≡ length a.output + size_of_values bs = omega (arith, v, length-append {A = Instruction}) in
     emits_then (under_code at (binders_in bs) C) a b c V ea eb
     ∙ ap (λ n. followed a (V ++ instruction (bind (length (binders_in bs)) (mask x (binders_in bs))) at
-        ∷ (code x (places_in a) (with_variables (binders_in bs) (stored_among x (binders_in bs)) a.frame) (n + 1) C ++ instruction (slide (length (binders_in bs))) at ∷ []))) place
+    ∷ (code x (places_in a) (with_variables (binders_in bs) (stored_among x (binders_in bs)) a.frame) (n + 1) C ++ instruction (slide (length (binders_in bs))) at ∷ []))) place
 
 pub funcall_code : (at : ℕ) (i : Bool) (C : Core) (cs : Cores) (a b c d : Emitter) → Emits a b (core_code C) → Emits b c (λ e. cores_code cs (within e (None ∷ e.frame))) → Emits c d (λ e. called i at cs)
     → Emits a d (node_code at (core.funcall i C cs))
@@ -135,13 +135,13 @@ qlambda_code at P ps C a b c ea eb =
     let place : length (a.output ++ K) ≡ length a.output + size P = omega (arith, k, length-append {A = Instruction}) in
     emits_then (closure_code at true ps C) a b c K ea eb
     ∙ ap (λ n. followed a (K ++ instruction (closing true (length ps) (mask x ps) (caught_slots (captured x a.frame ps C)) (n + 1 + size C + 1)) at
-        ∷ (code x (places_in a) (body_scope x a.frame ps C) (n + 1) C ++ instruction return at ∷ []))) place
+    ∷ (code x (places_in a) (body_scope x a.frame ps C) (n + 1) C ++ instruction return at ∷ []))) place
 
 -- a catch of one kind or the other
 pub caught_code : (op : ℕ → Op) (at : ℕ) (A B : Core) (a b c d e : Emitter) (u : ℕ)
     → Emits a b (core_code A) → u ≡ length b.output → Emits b c (just end at) → Emits c d (core_code B) → Closes d e u (op (length d.output + 1)) (instruction exit at)
     → e ≡ followed a (code (context_in a) (places_in a) a.frame (length a.output) A ++ instruction (op (length a.output + size A + 1 + size B + 1)) at
-        ∷ (code (context_in a) (places_in a) a.frame (length a.output + size A + 1) B ++ instruction exit at ∷ []))
+    ∷ (code (context_in a) (places_in a) a.frame (length a.output + size A + 1) B ++ instruction exit at ∷ []))
 caught_code op at A B a b c d e u ea hu eb ec de =
     let pc = length a.output in
     let x = context_in a in
@@ -217,10 +217,10 @@ qlet_code at P bs C a b c d e f u starts ea hu eb hs ec de ef =
     let ul : u ≡ pc + length K = hu ∙ far a b K ea in
     let e1 : e ≡ followed a (K ++ q ∷ (J ++ jp ∷ (to ∷ []))) =
     patched a d e K J (J ++ jp ∷ (to ∷ [])) i u (qlet (starts_of (pc + size P + 1) bs) t (t + 1)) d2 ul (λ split here.
-        de (a.output ++ K) J i split here
-        ∙ (ap (λ m. with_output d ((a.output ++ K) ++ instruction (qlet starts m (m + 1)) at ∷ (J ++ instruction (jump (m + 1)) at ∷ (instruction (touch (length starts)) at ∷ [])))) dl
-        ∙ (ap (λ m. with_output d ((a.output ++ K) ++ instruction (qlet starts t (t + 1)) at ∷ (J ++ jp ∷ (instruction (touch m) at ∷ [])))) sl
-        ∙ ap (λ s. with_output d ((a.output ++ K) ++ instruction (qlet s t (t + 1)) at ∷ (J ++ jp ∷ (to ∷ [])))) st))) in
+    de (a.output ++ K) J i split here
+    ∙ (ap (λ m. with_output d ((a.output ++ K) ++ instruction (qlet starts m (m + 1)) at ∷ (J ++ instruction (jump (m + 1)) at ∷ (instruction (touch (length starts)) at ∷ [])))) dl
+    ∙ (ap (λ m. with_output d ((a.output ++ K) ++ instruction (qlet starts t (t + 1)) at ∷ (J ++ jp ∷ (instruction (touch m) at ∷ [])))) sl
+    ∙ ap (λ s. with_output d ((a.output ++ K) ++ instruction (qlet s t (t + 1)) at ∷ (J ++ jp ∷ (to ∷ [])))) st))) in
     let W : List Instruction = K ++ q ∷ (J ++ jp ∷ (to ∷ [])) in
     let wl : length (a.output ++ W) + 1 ≡ t + 2 = omega (arith, k, j, length-append {A = Instruction}) in
     let U : List Instruction = instruction (bind n (mask x (binders_in bs))) at ∷ (code x p (with_variables (binders_in bs) (stored_among x (binders_in bs)) a.frame) (t + 2) C ++ instruction (slide n) at ∷ []) in

@@ -44,16 +44,16 @@ under_codes r at bs C n outer a b c d hn ho ea eb slid =
     let c1 : c ≡ within (followed a (i ∷ M)) V = inside_then a b c (i ∷ []) V C ea eb in
     let split : c.frame ≡ with_variables bs ss [] ++ a.frame = ap (λ e. e.frame) c1 ∙ above_variables bs ss a.frame in
     on_ok_weaker r (λ (last : d ≡ within (followed c (instruction (slide n) at ∷ [])) a.frame).
-        last ∙ (ap (λ e. within (followed e (instruction (slide n) at ∷ [])) a.frame) c1
-        ∙ (ap (λ m. followed (followed a (i ∷ M)) (instruction (slide m) at ∷ [])) hn
-        ∙ ap (with_output a) (append_assoc a.output (i ∷ M) (instruction (slide (length bs)) at ∷ [])))))
+    last ∙ (ap (λ e. within (followed e (instruction (slide n) at ∷ [])) a.frame) c1
+    ∙ (ap (λ m. followed (followed a (i ∷ M)) (instruction (slide m) at ∷ [])) hn
+    ∙ ap (with_output a) (append_assoc a.output (i ∷ M) (instruction (slide (length bs)) at ∷ [])))))
     (slid (with_variables bs ss []) a.frame split ho)
 
 pub closure_codes : {T E : Type 0} (r : Result T E) (at : ℕ) (q : Bool) (ps : List Binder) (C : Core) (n place : ℕ) (slots : List ℕ) (outer : Scope) (a b c d : Emitter)
     → n ≡ length ps → place ≡ length a.output → outer ≡ a.frame → slots ≡ caught_slots (captured (context_in a) a.frame ps C)
     → b ≡ within (followed a (hole at ∷ [])) (body_scope (context_in a) a.frame ps C) → Emits b c (core_code C)
     → ((before after : List Instruction) (i : Instruction) → c.output ≡ before ++ i ∷ after → place ≡ length before
-        → OnOk r (d ≡ within (with_output c (before ++ instruction (closing q n (mask (context_in c) ps) slots (length c.output + 1)) i.at ∷ (after ++ instruction return at ∷ []))) outer))
+    → OnOk r (d ≡ within (with_output c (before ++ instruction (closing q n (mask (context_in c) ps) slots (length c.output + 1)) i.at ∷ (after ++ instruction return at ∷ []))) outer))
     → OnOk r (Emits a d (closure_code at q ps C))
 closure_codes r at q ps C n place slots outer a b c d hn hp ho hs ea eb closed =
     let x = context_in a in
@@ -65,11 +65,11 @@ closure_codes r at q ps C n place slots outer a b c d hn hp ho hs ea eb closed =
     let split : c.output ≡ a.output ++ hole at ∷ M = ap (λ e. e.output) c1 in
     let next : length (a.output ++ hole at ∷ M) + 1 ≡ length a.output + 1 + size C + 1 = omega (arith, m, length-append {A = Instruction}) in
     on_ok_weaker r (λ (last : d ≡ within (with_output c (a.output ++ instruction (closing q n (mask (context_in c) ps) slots (length c.output + 1)) at ∷ rest)) outer).
-        last ∙ (ap (λ e. within (with_output e (a.output ++ instruction (closing q n (mask (context_in e) ps) slots (length e.output + 1)) at ∷ rest)) outer) c1
-        ∙ (ap (λ sc. within (with_output a (a.output ++ instruction (closing q n (mask x ps) slots (length (a.output ++ hole at ∷ M) + 1)) at ∷ rest)) sc) ho
-        ∙ (ap (λ k. followed a (instruction (closing q k (mask x ps) slots (length (a.output ++ hole at ∷ M) + 1)) at ∷ rest)) hn
-        ∙ (ap (λ s. followed a (instruction (closing q (length ps) (mask x ps) s (length (a.output ++ hole at ∷ M) + 1)) at ∷ rest)) hs
-        ∙ ap (λ k. followed a (instruction (closing q (length ps) (mask x ps) (caught_slots (captured x a.frame ps C)) k) at ∷ rest)) next)))))
+    last ∙ (ap (λ e. within (with_output e (a.output ++ instruction (closing q n (mask (context_in e) ps) slots (length e.output + 1)) at ∷ rest)) outer) c1
+    ∙ (ap (λ sc. within (with_output a (a.output ++ instruction (closing q n (mask x ps) slots (length (a.output ++ hole at ∷ M) + 1)) at ∷ rest)) sc) ho
+    ∙ (ap (λ k. followed a (instruction (closing q k (mask x ps) slots (length (a.output ++ hole at ∷ M) + 1)) at ∷ rest)) hn
+    ∙ (ap (λ s. followed a (instruction (closing q (length ps) (mask x ps) s (length (a.output ++ hole at ∷ M) + 1)) at ∷ rest)) hs
+    ∙ ap (λ k. followed a (instruction (closing q (length ps) (mask x ps) (caught_slots (captured x a.frame ps C)) k) at ∷ rest)) next)))))
     (closed a.output M (hole at) split hp)
 
 -- code above an operand, which is let go after it

@@ -518,12 +518,7 @@ impl<'p, 'q, 'a> Emitter<'p, 'q, 'a> {
     }
 
     // Goes into the body of a closure.
-    fn open(
-        &mut self,
-        at: Offset,
-        params: &[Binder],
-        body: &Core<'a>,
-    ) -> Result<Opened, AllocError>
+    fn open(&mut self, at: Offset, params: &[Binder], body: &Core<'a>) -> Result<Opened, AllocError>
         ensures hole { IfOk result (λ o. o.hole ≡ length self.old.output) }
         ensures outer { IfOk result (λ o. o.outer ≡ self.old.frame) }
         ensures slots { IfOk result (λ o. o.slots ≡ caught_slots (captured (context_in self.old) self.old.frame (binders_of params.now) (core_of body.now))) }

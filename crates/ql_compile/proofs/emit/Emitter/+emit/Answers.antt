@@ -134,7 +134,7 @@ forms-returns t c =
 pub node-returns-in_ok-core-in-If-3 : goal.node-returns-in_ok-core-in-If-3
 node-returns-in_ok-core-in-If-3 t c =
     let step = on_ok_weaker c.jump_here.result (conditional_code c.args.at.0 (core_of c.get-in-If.result.now) (core_of c.get-in-If-2.result.now) (core_of c.get-in-If-3.result.now) c.args.self.now c.core-in-If.new.self c.hole.new.self c.core-in-If-2.new.self c.hole-in-If.new.self c.branch_here.new.self c.core-in-If-3.new.self c.jump_here.new.self c.in_ok-branch-in-If.branch c.in_ok-jump-in-If.jump
-        c.in_ok-core-in-If.ensures c.in_ok-branch-in-If.ensures.place c.in_ok-branch-in-If.ensures.hole c.in_ok-core-in-If-2.ensures c.in_ok-jump-in-If.ensures.place c.in_ok-jump-in-If.ensures.hole c.in_ok-branch_here-in-If.ensures c.in_ok-core-in-If-3.ensures) c.jump_here.ensures in
+    c.in_ok-core-in-If.ensures c.in_ok-branch-in-If.ensures.place c.in_ok-branch-in-If.ensures.hole c.in_ok-core-in-If-2.ensures c.in_ok-jump-in-If.ensures.place c.in_ok-jump-in-If.ensures.hole c.in_ok-branch_here-in-If.ensures c.in_ok-core-in-If-3.ensures) c.jump_here.ensures in
     rw (c.in-If.is, if_is c.in-If.test c.in-If.then c.in-If.other) (rw (c.get-in-If.ensures, c.get-in-If-2.ensures, c.get-in-If-3.ensures) at step)
 
 pub node-returns-in_ok-values-in-Let : goal.node-returns-in_ok-values-in-Let
@@ -163,14 +163,14 @@ pub node-returns-in_ok-cores_above-in-Funcall : goal.node-returns-in_ok-cores_ab
 node-returns-in_ok-cores_above-in-Funcall t c =
     let cs : c.as_slice-in-Funcall-2.result.now ≡ c.as_slice-in-Funcall.result.now = c.as_slice-in-Funcall-2.ensures ∙ sym c.as_slice-in-Funcall.ensures in
     let step = on_ok_weaker c.funcall.result (funcall_code c.args.at.0 c.in-Funcall.ignored (core_of c.get-in-Funcall.result.now) (cores_of c.as_slice-in-Funcall.result.now) c.args.self.now c.core-in-Funcall.new.self c.cores_above.new.self c.funcall.new.self
-        c.in_ok-core-in-Funcall.ensures c.in_ok-cores_above-in-Funcall.ensures) (rw cs at c.funcall.ensures) in
+    c.in_ok-core-in-Funcall.ensures c.in_ok-cores_above-in-Funcall.ensures) (rw cs at c.funcall.ensures) in
     rw (c.in-Funcall.is, funcall_is c.in-Funcall.ignored c.in-Funcall.fun c.in-Funcall.args) (rw (c.get-in-Funcall.ensures, c.as_slice-in-Funcall.ensures) at step)
 
 pub node-returns-in_ok-gather-in-Qlet : goal.node-returns-in_ok-gather-in-Qlet
 node-returns-in_ok-gather-in-Qlet t c =
     let bs : c.as_slice-in-Qlet-2.result.now ≡ c.as_slice-in-Qlet.result.now = c.as_slice-in-Qlet-2.ensures ∙ sym c.as_slice-in-Qlet.ensures in
     let step = on_ok_weaker c.under-in-Qlet.result (qlet_code c.args.at.0 (core_of c.get-in-Qlet.result.now) (bounds_of c.as_slice-in-Qlet.result.now) (core_of c.get-in-Qlet-2.result.now) c.args.self.now c.core-in-Qlet.new.self c.hole-in-Qlet.new.self c.joined.new.self c.gather.new.self c.under-in-Qlet.new.self c.in_ok-hole-in-Qlet.hole c.in_ok-starts-in-Qlet.starts.items
-        c.in_ok-core-in-Qlet.ensures c.in_ok-hole-in-Qlet.ensures.place c.in_ok-hole-in-Qlet.ensures.hole c.in_ok-starts-in-Qlet.ensures.starts c.in_ok-starts-in-Qlet.ensures.code c.in_ok-gather-in-Qlet.ensures) (rw bs at c.under-in-Qlet.ensures) in
+    c.in_ok-core-in-Qlet.ensures c.in_ok-hole-in-Qlet.ensures.place c.in_ok-hole-in-Qlet.ensures.hole c.in_ok-starts-in-Qlet.ensures.starts c.in_ok-starts-in-Qlet.ensures.code c.in_ok-gather-in-Qlet.ensures) (rw bs at c.under-in-Qlet.ensures) in
     rw (c.in-Qlet.is, qlet_is c.in-Qlet.prop c.in-Qlet.binds c.in-Qlet.body) (rw (c.get-in-Qlet.ensures, c.as_slice-in-Qlet.ensures, c.get-in-Qlet-2.ensures) at step)
 
 pub node-returns-in_ok-core-in-Qlambda : goal.node-returns-in_ok-core-in-Qlambda
@@ -181,13 +181,13 @@ node-returns-in_ok-core-in-Qlambda t c =
 pub node-returns-in_ok-core-in-Catch-2 : goal.node-returns-in_ok-core-in-Catch-2
 node-returns-in_ok-core-in-Catch-2 t c =
     let step = on_ok_weaker c.catch_here.result (caught_code Catch c.args.at.0 (core_of c.get-in-Catch.result.now) (core_of c.get-in-Catch-2.result.now) c.args.self.now c.core-in-Catch.new.self c.hole-in-Catch.new.self c.core-in-Catch-2.new.self c.catch_here.new.self c.in_ok-hole-in-Catch.hole
-        c.in_ok-core-in-Catch.ensures c.in_ok-hole-in-Catch.ensures.place c.in_ok-hole-in-Catch.ensures.hole c.in_ok-core-in-Catch-2.ensures) c.catch_here.ensures in
+    c.in_ok-core-in-Catch.ensures c.in_ok-hole-in-Catch.ensures.place c.in_ok-hole-in-Catch.ensures.hole c.in_ok-core-in-Catch-2.ensures) c.catch_here.ensures in
     rw (c.in-Catch.is, catch_is c.in-Catch.tag c.in-Catch.body) (rw (c.get-in-Catch.ensures, c.get-in-Catch-2.ensures) at step)
 
 pub node-returns-in_ok-core-in-Qcatch-2 : goal.node-returns-in_ok-core-in-Qcatch-2
 node-returns-in_ok-core-in-Qcatch-2 t c =
     let step = on_ok_weaker c.qcatch_here.result (caught_code Qcatch c.args.at.0 (core_of c.get-in-Qcatch.result.now) (core_of c.get-in-Qcatch-2.result.now) c.args.self.now c.core-in-Qcatch.new.self c.hole-in-Qcatch.new.self c.core-in-Qcatch-2.new.self c.qcatch_here.new.self c.in_ok-hole-in-Qcatch.hole
-        c.in_ok-core-in-Qcatch.ensures c.in_ok-hole-in-Qcatch.ensures.place c.in_ok-hole-in-Qcatch.ensures.hole c.in_ok-core-in-Qcatch-2.ensures) c.qcatch_here.ensures in
+    c.in_ok-core-in-Qcatch.ensures c.in_ok-hole-in-Qcatch.ensures.place c.in_ok-hole-in-Qcatch.ensures.hole c.in_ok-core-in-Qcatch-2.ensures) c.qcatch_here.ensures in
     rw (c.in-Qcatch.is, qcatch_is c.in-Qcatch.tag c.in-Qcatch.body) (rw (c.get-in-Qcatch.ensures, c.get-in-Qcatch-2.ensures) at step)
 
 pub node-returns-in_ok-core_above-in-Throw : goal.node-returns-in_ok-core_above-in-Throw
@@ -198,7 +198,7 @@ node-returns-in_ok-core_above-in-Throw t c =
 pub node-returns-in_ok-core_above-in-Protect : goal.node-returns-in_ok-core_above-in-Protect
 node-returns-in_ok-core_above-in-Protect t c =
     let step = on_ok_weaker c.add-in-Protect.result (protect_code c.args.at.0 (core_of c.get-in-Protect.result.now) (core_of c.get-in-Protect-2.result.now) c.args.self.now c.hole-in-Protect.new.self c.core-in-Protect.new.self c.protect_here.new.self c.core_above-in-Protect.new.self c.add-in-Protect.new.self c.in_ok-hole-in-Protect.hole
-        c.in_ok-hole-in-Protect.ensures.place c.in_ok-hole-in-Protect.ensures.hole c.in_ok-core-in-Protect.ensures c.in_ok-protect_here-in-Protect.ensures c.in_ok-core_above-in-Protect.ensures) c.add-in-Protect.ensures in
+    c.in_ok-hole-in-Protect.ensures.place c.in_ok-hole-in-Protect.ensures.hole c.in_ok-core-in-Protect.ensures c.in_ok-protect_here-in-Protect.ensures c.in_ok-core_above-in-Protect.ensures) c.add-in-Protect.ensures in
     rw (c.in-Protect.is, protect_is c.in-Protect.value c.in-Protect.cleanup) (rw (c.get-in-Protect.ensures, c.get-in-Protect-2.ensures) at step)
 
 pub node-returns-in_ok-core-in-Defvar : goal.node-returns-in_ok-core-in-Defvar
