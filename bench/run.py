@@ -1,7 +1,8 @@
 #!/usr/bin/env python3
 """Times and peak memory of the built program, on sources that grow, and beside a stock Lisp.
 
-Each source is measured at its size and at half of it. It is no part of the gate.
+Each source is measured at its size and at half of it. Most of those for `check` have a code that is too long, and are
+refused for that alone, once they are read, expanded and checked and their code is measured. It is no part of the gate.
 
     bench/run.py            prints a table
 """
@@ -19,6 +20,7 @@ MOST_GROWTH = 2.3
 # bytes of memory at the peak for each byte of the source
 MOST_BYTES = {"run": 200, "show": 200, "check": 400}
 RUNS = 20
+LONG_CODE = b"ql: refused codetoolong at "
 
 
 def spread_prints(size, lines):
@@ -137,7 +139,7 @@ SOURCES = [
     ("check", "let* of 196 bindings", lambda half: many(MIB >> half, wide_bindings)),
     ("check", "quoted integers", lambda half: quoted(integers(), MIB >> half)),
     ("run", "13,000 spread prints", lambda half: spread_prints(MIB >> half, 13000 >> half)),
-    ("run", "nested sums, 60,000 operands", lambda half: nested_sums(60000 >> half)),
+    ("run", "nested sums, 32,000 operands", lambda half: nested_sums(32000 >> half)),
     ("show", "integers", lambda half: quoted(integers(), MIB >> half)),
     ("show", "distinct symbols", lambda half: quoted(symbols(), MIB >> half)),
     ("show", "one symbol", lambda half: quoted(one_symbol(), MIB >> half)),
@@ -154,11 +156,13 @@ def measure(command, paths):
         for i, path in enumerate(paths):
             with open(path, "rb") as source, open(os.devnull, "wb") as sink:
                 start = time.perf_counter()
-                child = subprocess.Popen(command, stdin=source, stdout=sink)
+                child = subprocess.Popen(command, stdin=source, stdout=sink, stderr=subprocess.PIPE)
                 _, status, usage = os.wait4(child.pid, 0)
                 took = time.perf_counter() - start
-            if status != 0:
-                sys.exit("%s ended with %d on %s" % (command, status, path))
+            with child.stderr as lines:
+                said = lines.read()
+            if status != 0 and not (command[-1] == "check" and said.startswith(LONG_CODE)):
+                sys.exit("%s ended with %d on %s: %s" % (command, status, path, said.decode()))
             best[i], peak[i] = min(best[i], took), max(peak[i], usage.ru_maxrss * 1024)
     return best, peak
 

@@ -37,7 +37,7 @@ pub fn closed_end<'a>(words: &[&'a str]) -> Option<Unopened<'a>> {
 }
 
 fn closed_by<'a>(source: &'a str, journal: &'a str, command: &str) -> Option<Unopened<'a>> {
-    if is_among(command, &["check", "run", "show"]) && source != STANDARD {
+    if is_among(command, &["check", "list", "run", "show"]) && source != STANDARD {
         Some(Unopened::Source(source))
     } else if command == "run" && journal != STANDARD {
         Some(Unopened::Journal(journal))

@@ -19,6 +19,7 @@ pub mod ReachedHas
 pub mod Settles
 pub mod SoundTicks
 pub mod Stale
+pub mod Listed
 pub mod WalkDecides
 pub mod WalkIsComplete
 pub mod WalkIsSound

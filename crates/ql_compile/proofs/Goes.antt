@@ -16,7 +16,7 @@ use Rattle.ql_world.specs.declared.world.Aim.TheVariants.{Free as free_aim}
 use Rattle.ql_world.specs.Machine.{Want, reads, branches, prints, chooses, makes, opens, throws, Answer, spawned}
 use Rattle.ql_world.specs.Idle.{in_cleanup}
 use Rattle.ql_world.specs.Touch.{await_or, await_word, touched_in_call, touched_by, compute_want, funcall_want}
-use Rattle.ql_world.proofs.Follows as follows
+use Rattle.ql_world.specs.Follows as follows
 use Rattle.ql_meaning.specs.Context.{Context, constant_word, parameters_of, stored_among}
 use Rattle.ql_meaning.specs.Control as control
 use Rattle.ql_meaning.specs.Control.{Bindings, lookup, bind_all, Closure, Frame, replied, returning, catching, protecting, Control, acting, joining, given, Thread, thread, descend, descend_values, next_operand, values_in, give, touched, place_in, act_want, core_want, given_want, want_of, read_go, act_go, core_go, given_go, go_on, children_of, core_machine}

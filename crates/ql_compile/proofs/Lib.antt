@@ -20,9 +20,12 @@ mod Framed
 mod Gives
 mod Goes
 mod Instructions
+mod Linked
+mod Measuring
 mod Nodes
 mod Noted
 mod ProgramIsFine
+mod Quoting
 mod Relation
 mod Right
 mod Scopes
@@ -30,8 +33,11 @@ mod Simulation
 mod Sized
 mod Sizes
 mod SlotKinds
+mod Slotted
 mod SoundExamples
+mod SourceOrder
 mod Stacks
 mod Strict
+mod Tables
 mod Unwinds
 mod Wants

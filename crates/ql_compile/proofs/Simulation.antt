@@ -9,9 +9,7 @@ use Rattle.ql_scope.specs.Scope.{binders_in}
 use Rattle.ql_world.specs.declared.word.Word.{Word}
 use Rattle.ql_world.specs.declared.word.Slot.TheVariants.{Val as plain}
 use Rattle.ql_world.specs.Tick.{slots_of}
-use Rattle.ql_world.proofs.Alike.{Both}
-use Rattle.ql_world.proofs.Follows.{Follows}
-use Rattle.ql_world.proofs.Bisimulation.{same_told, opening_alike}
+use Rattle.ql_world.specs.Follows.{Both, Follows, AreToldAlike}
 use Rattle.ql_meaning.specs.Context.{Context, is_called, function_called, stored_among, context_of, functions_of, globals_of, tops_of, quotes_of}
 use Rattle.ql_meaning.specs.Control as control
 use Rattle.ql_meaning.specs.Control.{Bindings, Closure, Frame, Control, acting, server_base, bind_all, descend, begin, closure_at, children_at, core_machine}
@@ -203,7 +201,22 @@ module _ (x : Context) (places : Places) (ops : List Instruction) where
       let j = tops_long (pc + size c + 1) cs in
       omega (arith, length-append {A = Instruction}, i, j)
 
-module _ (p : Program) (right : Checked p) where
+-- the instructions of a program's code
+abbrev pub ops_of : Program → List Instruction
+ops_of p = instructions_of (context_of p) (places_of p) p
+
+abbrev pub Alike : Program → control.Thread → machine.Point → Type 0
+Alike p = Follow (context_of p) (places_of p) (ops_of p)
+
+abbrev pub SameClosures : Program → Closure → Entry → Type 0
+SameClosures p = Same (context_of p) (places_of p) (ops_of p)
+
+-- what `ql_world` says of these machines: where the one follows the other, the same is told of both
+abbrev pub FollowersAreToldAlike : Type 0
+FollowersAreToldAlike = (p : Program) → Follows (core_machine (context_of p)) (code_machine (ops_of p)) (Alike p) (SameClosures p)
+    → AreToldAlike (core_machine (context_of p)) (code_machine (ops_of p)) (Alike p) (SameClosures p)
+
+module _ (alike : FollowersAreToldAlike) (p : Program) (right : Checked p) where
   abbrev x : Context
   x = context_of p
 
@@ -231,14 +244,9 @@ module _ (p : Program) (right : Checked p) where
 
   told_alike : (names : List (List ℕ)) (limits : Limits) (schedule : List ℕ) → program_told names p limits schedule ≡ code_told names (compiled p) limits schedule
   told_alike names limits schedule =
-      let m = core_machine x in
-      let n = code_machine ops in
-      let R = Follow x places ops in
-      let S = Same x places ops in
-      let f = code_follows x places ops known in
-      same_told m n R S f names limits schedule _ _ (opening_alike m n R S f names limits (quotes_of p).0 (length (globals_of p)) _ _ begins_alike)
+      alike p (code_follows x places ops known) names limits (quotes_of p).0 (length (globals_of p)) _ _ begins_alike schedule
 
 -- the code of a program is told as the program is, along every schedule
-pub always_same : (p : Program) → is_compilable p ≡ true → (names : List (List ℕ)) (limits : Limits) (schedule : List ℕ)
+pub always_same : FollowersAreToldAlike → (p : Program) → is_compilable p ≡ true → (names : List (List ℕ)) (limits : Limits) (schedule : List ℕ)
     → code_told names (compiled p) limits schedule ≡ program_told names p limits schedule
-always_same p right names limits schedule = sym (told_alike p (checked p right) names limits schedule)
+always_same alike p right names limits schedule = sym (told_alike alike p (checked p right) names limits schedule)

@@ -8,91 +8,91 @@ use Rattle.ql_code.specs.declared.code.Op.TheVariants.{Lit as lit, Close as clos
 use Rattle.ql_code.specs.Sound.{value, catching, main, body, Sound, IsValid}
 use Rattle.ql_compile.specs.Compile.{compiled}
 use Rattle.ql_compile.proofs.ProgramIsFine.{code_is_sound}
-use Rattle.ql_compile.proofs.Examples.{sum_printed, nothing_at_all, quoted_list, overflow, even_odd, closures_share, small_fib, eager_throw, eager_throw_new, siblings, grandchildren, exit_kills, killed_cleanup, outer_throw, queued_calls, deadlock, dead_closure, eager_closure, budget_spent, one_cell, no_cells, product, throw_in_cleanup, catch_in_cleanup, send_in_cleanup, idle_in_cleanup, eager_deadlock, child_text}
+use Rattle.ql_meaning.specs.Worked.{sum_printed, nothing_at_all, quoted_list, overflow, even_odd, closures_share, small_fib, eager_throw, eager_throw_new, siblings, grandchildren, exit_kills, killed_cleanup, outer_throw, queued_calls, deadlock, dead_closure, eager_closure, budget_spent, one_cell, no_cells, product, throw_in_cleanup, catch_in_cleanup, send_in_cleanup, idle_in_cleanup, eager_deadlock, child_text}
 
-sum_printed_is_sound : Sound (compiled sum_printed)
-sum_printed_is_sound = code_is_sound sum_printed refl refl
+sum_printed_is_sound : Sound (compiled sum_printed.program)
+sum_printed_is_sound = code_is_sound sum_printed.program refl refl
 
-nothing_at_all_is_sound : Sound (compiled nothing_at_all)
-nothing_at_all_is_sound = code_is_sound nothing_at_all refl refl
+nothing_at_all_is_sound : Sound (compiled nothing_at_all.program)
+nothing_at_all_is_sound = code_is_sound nothing_at_all.program refl refl
 
-quoted_list_is_sound : Sound (compiled quoted_list)
-quoted_list_is_sound = code_is_sound quoted_list refl refl
+quoted_list_is_sound : Sound (compiled quoted_list.program)
+quoted_list_is_sound = code_is_sound quoted_list.program refl refl
 
-overflow_is_sound : Sound (compiled overflow)
-overflow_is_sound = code_is_sound overflow refl refl
+overflow_is_sound : Sound (compiled overflow.program)
+overflow_is_sound = code_is_sound overflow.program refl refl
 
-even_odd_is_sound : Sound (compiled even_odd)
-even_odd_is_sound = code_is_sound even_odd refl refl
+even_odd_is_sound : Sound (compiled even_odd.program)
+even_odd_is_sound = code_is_sound even_odd.program refl refl
 
-closures_share_is_sound : Sound (compiled closures_share)
-closures_share_is_sound = code_is_sound closures_share refl refl
+closures_share_is_sound : Sound (compiled closures_share.program)
+closures_share_is_sound = code_is_sound closures_share.program refl refl
 
-small_fib_is_sound : Sound (compiled small_fib)
-small_fib_is_sound = code_is_sound small_fib refl refl
+small_fib_is_sound : Sound (compiled small_fib.program)
+small_fib_is_sound = code_is_sound small_fib.program refl refl
 
-eager_throw_is_sound : Sound (compiled eager_throw)
-eager_throw_is_sound = code_is_sound eager_throw refl refl
+eager_throw_is_sound : Sound (compiled eager_throw.program)
+eager_throw_is_sound = code_is_sound eager_throw.program refl refl
 
-eager_throw_new_is_sound : Sound (compiled eager_throw_new)
-eager_throw_new_is_sound = code_is_sound eager_throw_new refl refl
+eager_throw_new_is_sound : Sound (compiled eager_throw_new.program)
+eager_throw_new_is_sound = code_is_sound eager_throw_new.program refl refl
 
-siblings_is_sound : Sound (compiled siblings)
-siblings_is_sound = code_is_sound siblings refl refl
+siblings_is_sound : Sound (compiled siblings.program)
+siblings_is_sound = code_is_sound siblings.program refl refl
 
-grandchildren_is_sound : Sound (compiled grandchildren)
-grandchildren_is_sound = code_is_sound grandchildren refl refl
+grandchildren_is_sound : Sound (compiled grandchildren.program)
+grandchildren_is_sound = code_is_sound grandchildren.program refl refl
 
-exit_kills_is_sound : Sound (compiled exit_kills)
-exit_kills_is_sound = code_is_sound exit_kills refl refl
+exit_kills_is_sound : Sound (compiled exit_kills.program)
+exit_kills_is_sound = code_is_sound exit_kills.program refl refl
 
-killed_cleanup_is_sound : Sound (compiled killed_cleanup)
-killed_cleanup_is_sound = code_is_sound killed_cleanup refl refl
+killed_cleanup_is_sound : Sound (compiled killed_cleanup.program)
+killed_cleanup_is_sound = code_is_sound killed_cleanup.program refl refl
 
-outer_throw_is_sound : Sound (compiled outer_throw)
-outer_throw_is_sound = code_is_sound outer_throw refl refl
+outer_throw_is_sound : Sound (compiled outer_throw.program)
+outer_throw_is_sound = code_is_sound outer_throw.program refl refl
 
-queued_calls_is_sound : Sound (compiled queued_calls)
-queued_calls_is_sound = code_is_sound queued_calls refl refl
+queued_calls_is_sound : Sound (compiled queued_calls.program)
+queued_calls_is_sound = code_is_sound queued_calls.program refl refl
 
-deadlock_is_sound : Sound (compiled deadlock)
-deadlock_is_sound = code_is_sound deadlock refl refl
+deadlock_is_sound : Sound (compiled deadlock.program)
+deadlock_is_sound = code_is_sound deadlock.program refl refl
 
-dead_closure_is_sound : Sound (compiled dead_closure)
-dead_closure_is_sound = code_is_sound dead_closure refl refl
+dead_closure_is_sound : Sound (compiled dead_closure.program)
+dead_closure_is_sound = code_is_sound dead_closure.program refl refl
 
-eager_closure_is_sound : Sound (compiled eager_closure)
-eager_closure_is_sound = code_is_sound eager_closure refl refl
+eager_closure_is_sound : Sound (compiled eager_closure.program)
+eager_closure_is_sound = code_is_sound eager_closure.program refl refl
 
-budget_spent_is_sound : Sound (compiled budget_spent)
-budget_spent_is_sound = code_is_sound budget_spent refl refl
+budget_spent_is_sound : Sound (compiled budget_spent.program)
+budget_spent_is_sound = code_is_sound budget_spent.program refl refl
 
-one_cell_is_sound : Sound (compiled one_cell)
-one_cell_is_sound = code_is_sound one_cell refl refl
+one_cell_is_sound : Sound (compiled one_cell.program)
+one_cell_is_sound = code_is_sound one_cell.program refl refl
 
-no_cells_is_sound : Sound (compiled no_cells)
-no_cells_is_sound = code_is_sound no_cells refl refl
+no_cells_is_sound : Sound (compiled no_cells.program)
+no_cells_is_sound = code_is_sound no_cells.program refl refl
 
-product_is_sound : Sound (compiled product)
-product_is_sound = code_is_sound product refl refl
+product_is_sound : Sound (compiled product.program)
+product_is_sound = code_is_sound product.program refl refl
 
-throw_in_cleanup_is_sound : Sound (compiled throw_in_cleanup)
-throw_in_cleanup_is_sound = code_is_sound throw_in_cleanup refl refl
+throw_in_cleanup_is_sound : Sound (compiled throw_in_cleanup.program)
+throw_in_cleanup_is_sound = code_is_sound throw_in_cleanup.program refl refl
 
-catch_in_cleanup_is_sound : Sound (compiled catch_in_cleanup)
-catch_in_cleanup_is_sound = code_is_sound catch_in_cleanup refl refl
+catch_in_cleanup_is_sound : Sound (compiled catch_in_cleanup.program)
+catch_in_cleanup_is_sound = code_is_sound catch_in_cleanup.program refl refl
 
-send_in_cleanup_is_sound : Sound (compiled send_in_cleanup)
-send_in_cleanup_is_sound = code_is_sound send_in_cleanup refl refl
+send_in_cleanup_is_sound : Sound (compiled send_in_cleanup.program)
+send_in_cleanup_is_sound = code_is_sound send_in_cleanup.program refl refl
 
-idle_in_cleanup_is_sound : Sound (compiled idle_in_cleanup)
-idle_in_cleanup_is_sound = code_is_sound idle_in_cleanup refl refl
+idle_in_cleanup_is_sound : Sound (compiled idle_in_cleanup.program)
+idle_in_cleanup_is_sound = code_is_sound idle_in_cleanup.program refl refl
 
-eager_deadlock_is_sound : Sound (compiled eager_deadlock)
-eager_deadlock_is_sound = code_is_sound eager_deadlock refl refl
+eager_deadlock_is_sound : Sound (compiled eager_deadlock.program)
+eager_deadlock_is_sound = code_is_sound eager_deadlock.program refl refl
 
-child_text_is_sound : Sound (compiled child_text)
-child_text_is_sound = code_is_sound child_text refl refl
+child_text_is_sound : Sound (compiled child_text.program)
+child_text_is_sound = code_is_sound child_text.program refl refl
 
 -- code without quoted pairs, functions and globals
 abbrev bare : List Op → Code

@@ -1,4 +1,8 @@
+pub mod Compile
 pub mod Emission
 pub mod Emitting
-pub mod Compile
 pub mod Laws
+pub mod Measure
+pub mod Named
+pub mod Quoting
+pub mod Slots

@@ -3,6 +3,7 @@
 ghost use Rattle.std.specs.Prelude.{◌≡◌, ◌≤◌, ℕ, List, Err, IfOk, length, map};
 ghost use Rattle.ql_base.specs.declared.limits.Limits.{Limits};
 ghost use Rattle.ql_expand.specs.ProgramView.{program_of};
+ghost use Rattle.ql_expand.specs.View.{function_of};
 ghost use Rattle.ql_meaning.specs.Context.{context_of};
 ghost use Rattle.ql_compile.specs.Compile.{compiled, entry_of, places_of};
 ghost use Rattle.ql_compile.specs.Laws.{IsTooLong, Simulates};
@@ -14,6 +15,7 @@ use crate::laws::{code_follows_program, compiled_code_is_valid};
 use crate::measure::measure;
 use crate::quotes::Quotes;
 use ql_code::code::{Code, FunEntry};
+use ql_expand::core_form::Function;
 use ql_scope::laws::scoped_is_compilable;
 use ql_scope::scoped::Scoped;
 use std::alloc::{AllocError, Global};
@@ -39,7 +41,6 @@ pub fn compile(alloc: Global, scoped: &Scoped) -> Result<Code, CompileRefusal>
 {
     // Facts that the clauses rest on; the calls do nothing.
     scoped_is_compilable();
-    compiled_code_is_valid();
     code_follows_program();
     let places = measure(alloc, scoped.program())?;
     match code_of(alloc, scoped, places.as_slice()) {
@@ -69,13 +70,30 @@ fn code_of(alloc: Global, scoped: &Scoped, places: &[u32]) -> Result<Code, Alloc
 }
 
 // The entries of functions that begin at these places.
-fn entries_of(
-    alloc: Global,
-    scoped: &Scoped,
-    places: &[u32],
-) -> Result<Vec<FunEntry>, AllocError>
+fn entries_of(alloc: Global, scoped: &Scoped, places: &[u32]) -> Result<Vec<FunEntry>, AllocError>
     requires places { places.now ≡ map (λ f. f.1) (places_of (program_of scoped.now.program)) }
     ensures { IfOk result (λ entries. entries.items ≡ map (entry_of (context_of (program_of scoped.now.program))) (places_of (program_of scoped.now.program))) }
 {
-    Err(AllocError)
+    let mut entries = Vec::with_capacity(alloc, places.len())?;
+    for (i, function) in scoped.program().functions.as_slice().iter().enumerate() {
+        let entry = entry_of(scoped, function, places[i])?;
+        entries.push(entry)?;
+    }
+    Ok(entries)
+}
+
+// The entry of a function that begins at this place. A function in scope has at most 16 parameters.
+fn entry_of(scoped: &Scoped, function: &Function, place: u32) -> Result<FunEntry, AllocError>
+    ensures { IfOk result (λ entry. entry ≡ entry_of (context_of (program_of scoped.now.program)) (function_of function.now, place)) }
+{
+    let params = function.params.as_slice();
+    let Ok(count) = u32::try_from(params.len()) else {
+        return Err(AllocError);
+    };
+    let mask = mask(scoped, params)?;
+    Ok(FunEntry {
+        place,
+        params: count,
+        mask,
+    })
 }

@@ -12,11 +12,15 @@ ghost use Rattle.ql_compile.specs.Compile.{compiled};
 ghost use Rattle.ql_compile.specs.Laws.{CodeFollows, CodeJournalsAreLegal, CodeJournalsSpellTheirSchedules};
 
 use ql_meaning::laws::{journals_are_legal, journals_spell_their_schedules};
+use ql_world::laws::followers_are_told_alike;
+use std::marker::Brand;
 
 /// Compiled code is told as its program is, along every schedule.
 pub fn code_follows_program()
     ensures { (p : Program) → is_compilable p ≡ true → (names : List (List ℕ)) (limits : Limits) → CodeFollows names p limits }
-{}
+{
+    followers_are_told_alike::<Brand>();
+}
 
 /// The journal of each run of compiled code is legal.
 pub fn code_journals_are_legal()

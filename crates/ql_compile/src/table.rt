@@ -8,6 +8,7 @@ ghost use Rattle.ql_compile.specs.Emission.{HasFunctions, HasGlobals};
 
 use ql_code::code::FunEntry;
 use ql_expand::core_form::Function;
+use ql_scope::table::put;
 use std::alloc::{AllocError, Global};
 
 /// By number, the first function of that name. The entries are those of the functions, in their order.
@@ -19,10 +20,17 @@ pub fn functions_by_name(
 ) -> Result<Vec<Option<FunEntry>>, AllocError>
     ensures { (x : Context) (places : Places) → map (λ f. f.0) places ≡ map function_of functions.now → map (entry_of x) places ≡ entries.now → IfOk result (λ table. HasFunctions x places table.items) }
 {
-    Err(AllocError)
+    let mut table = Vec::with_capacity(alloc, names as usize)?;
+    let mut rest = functions.len().min(entries.len());
+    // From the last on, so that the first of a name stays.
+    while rest > 0 {
+        rest -= 1;
+        put(&mut table, functions[rest].name, entries[rest])?;
+    }
+    Ok(table)
 }
 
-/// By number, the place of the first global of that name.
+/// By number, the place of the first global of that name. A place that is no `u32` is answered as want of memory.
 pub fn globals_by_name(
     alloc: Global,
     names: u32,
@@ -30,5 +38,14 @@ pub fn globals_by_name(
 ) -> Result<Vec<Option<u32>>, AllocError>
     ensures { IfOk result (λ table. HasGlobals globals.now table.items) }
 {
-    Err(AllocError)
+    let mut table = Vec::with_capacity(alloc, names as usize)?;
+    let mut rest = globals.len();
+    while rest > 0 {
+        rest -= 1;
+        let Ok(place) = u32::try_from(rest) else {
+            return Err(AllocError);
+        };
+        put(&mut table, globals[rest], place)?;
+    }
+    Ok(table)
 }

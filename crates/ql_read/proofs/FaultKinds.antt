@@ -4,7 +4,9 @@ use Rattle.std.specs.Prelude.{ltb, if◌then◌else◌}
 use Rattle.ql_forms.specs.Bytes.{Class, blank, letter, digit, plus, minus, opening, closing, mark, semicolon, dot, other, class, is_atom}
 use Rattle.ql_forms.specs.Spelled.{Form, symbol, integer, quote_form, none, more, Atom}
 use Rattle.ql_forms.specs.Spells.{is_numeric, HasSign, no_sign, a_plus, a_minus, IsAtom, a_symbol, an_integer}
-use Rattle.ql_read.specs.TextFault.{Kind, stray_close, bad_dot, bad_number, long_name, too_deep, FaultsAt}
+use Rattle.ql_base.specs.declared.refusal.FaultKind.{FaultKind}
+use Rattle.ql_base.specs.declared.refusal.FaultKind.TheVariants.{StrayClose, BadDot, BadNumber, LongName, TooDeep}
+use Rattle.ql_read.specs.TextFault.{FaultsAt}
 use Rattle.ql_read.specs.Scan.{Token, of_symbol, of_sign, of_number, first, next, token_atom, token_form, token_kind, Stack, top, in_list, in_tail, past_tail, in_quote, depth, push, State, between, in_comment, in_atom, after_dot, bad, close, put_dot, form_in, step_between, atom_or_bad, step_atom, step_dot, step, scan, start}
 use Rattle.std.specs.Prelude.{not}
 use Rattle.std.proofs.lemmas.Bool.{eqb-true}
@@ -210,7 +212,7 @@ lasts_comment : (o : ℕ) (k : Stack) (l : ℕ) (c : Bool) → is_tail k ≡ is_
 lasts_comment o k l true h = (refl, h)
 lasts_comment o k l false h = (refl, h)
 
-lasts_bad : (at : ℕ) (kind : Kind) (t : List ℕ) (c : Bool) (l : ℕ) → Lasts (scan (bad at kind) t) c l
+lasts_bad : (at : ℕ) (kind : FaultKind) (t : List ℕ) (c : Bool) (l : ℕ) → Lasts (scan (bad at kind) t) c l
 lasts_bad at kind [] c l = tt
 lasts_bad at kind (b ∷ t) c l = lasts_bad at kind t c l
 
@@ -239,7 +241,7 @@ unfolding is_integer
 numeric_is (a_symbol nn len) = nn
 numeric_is (an_integer s (d, ds) h) = sign_numeric s d
 
-kind_is : (v : Token) → token_kind v ≡ (if is_integer (token_atom v) then bad_number else long_name)
+kind_is : (v : Token) → token_kind v ≡ (if is_integer (token_atom v) then BadNumber else LongName)
 unfolding is_integer
 kind_is (of_symbol w) = refl
 kind_is (of_sign n b) = refl
@@ -248,33 +250,33 @@ kind_is (of_number n x) = refl
 whole_kind : (v : Token) (w : List ℕ) → Whole v w → token_kind v ≡ atom_kind w
 whole_kind v w (b, t, e, g) =
     let n : is_numeric (b ∷ t) ≡ is_integer (token_atom v) = numeric_is (goes_is b t v g) in
-    let a : token_kind v ≡ atom_kind (b ∷ t) = kind_is v ∙ ap (λ x. if x then bad_number else long_name) (sym n) in
+    let a : token_kind v ≡ atom_kind (b ∷ t) = kind_is v ∙ ap (λ x. if x then BadNumber else LongName) (sym n) in
     a ∙ ap atom_kind (sym e)
 
 -- at the first fault, after the bytes p
-module _ (p : List ℕ) (n : ℕ) (kind : Kind) where
-  same_kind : {m : ℕ} {k : Kind} → bad m k ≡ bad n kind → kind ≡ k
+module _ (p : List ℕ) (n : ℕ) (kind : FaultKind) where
+  same_kind : {m : ℕ} {k : FaultKind} → bad m k ≡ bad n kind → kind ≡ k
   same_kind e = cc
 
   more_kind : (o at : ℕ) (v : Token) (k : Stack) (z : Option Token) → atom_or_bad o at v k z ≡ bad n kind → kind ≡ token_kind v
   more_kind o at v k (Some y) e = absurd (cc)
   more_kind o at v k None e = same_kind e
 
-  form_kind : (o : ℕ) (k : Stack) (s : State) → (s ≡ bad n kind → Prim.⊥) → form_in o k s ≡ bad n kind → kind ≡ bad_dot
+  form_kind : (o : ℕ) (k : Stack) (s : State) → (s ≡ bad n kind → Prim.⊥) → form_in o k s ≡ bad n kind → kind ≡ BadDot
   form_kind o (top gs) s h e = absurd (h e)
   form_kind o (in_list at gs k) s h e = absurd (h e)
   form_kind o (in_tail at gs k) s h e = absurd (h e)
   form_kind o (past_tail at gs f k) s h e = same_kind e
   form_kind o (in_quote at k) s h e = absurd (h e)
 
-  close_kind : (o : ℕ) (k : Stack) → close o k ≡ bad n kind → kind ≡ (if is_tail k then bad_dot else stray_close)
+  close_kind : (o : ℕ) (k : Stack) → close o k ≡ bad n kind → kind ≡ (if is_tail k then BadDot else StrayClose)
   close_kind o (top gs) e = same_kind e
   close_kind o (in_list at gs k) e = absurd (cc)
   close_kind o (in_tail at gs k) e = same_kind e
   close_kind o (past_tail at gs f k) e = absurd (cc)
   close_kind o (in_quote at k) e = same_kind e
 
-  dot_kind : (o : ℕ) (k : Stack) → put_dot o k ≡ bad n kind → kind ≡ bad_dot
+  dot_kind : (o : ℕ) (k : Stack) → put_dot o k ≡ bad n kind → kind ≡ BadDot
   dot_kind o (top gs) e = same_kind e
   dot_kind o (in_list at none k) e = same_kind e
   dot_kind o (in_list at (more f gs) k) e = absurd (cc)
@@ -282,7 +284,7 @@ module _ (p : List ℕ) (n : ℕ) (kind : Kind) where
   dot_kind o (past_tail at gs f k) e = same_kind e
   dot_kind o (in_quote at k) e = same_kind e
 
-  level_kind : (o : ℕ) (c : Bool) (s : State) → (s ≡ bad n kind → Prim.⊥) → (if c then s else bad o too_deep) ≡ bad n kind → kind ≡ too_deep
+  level_kind : (o : ℕ) (c : Bool) (s : State) → (s ≡ bad n kind → Prim.⊥) → (if c then s else bad o TooDeep) ≡ bad n kind → kind ≡ TooDeep
   level_kind o true s h e = absurd (h e)
   level_kind o false s h e = same_kind e
 
@@ -290,12 +292,12 @@ module _ (p : List ℕ) (n : ℕ) (kind : Kind) where
   Blank : ℕ → Stack → Type 0
   Blank o k = scan start (p ++ 32 ∷ 97 ∷ []) ≡ form_in o k (in_atom (o + 1) o (of_symbol (97 ∷ [])) k)
 
-  opens_kind : (o q : ℕ) (k : Stack) (s : State) → Blank q k → (s ≡ bad n kind → kind ≡ too_deep) → form_in o k s ≡ bad n kind → OpeningKind p kind
+  opens_kind : (o q : ℕ) (k : Stack) (s : State) → Blank q k → (s ≡ bad n kind → kind ≡ TooDeep) → form_in o k s ≡ bad n kind → OpeningKind p kind
   unfolding Blank
   opens_kind o q (top gs) s b h e = inl (h e, can_go_on (p ++ 32 ∷ 97 ∷ []) (rw b refl))
   opens_kind o q (in_list at gs k) s b h e = inl (h e, can_go_on (p ++ 32 ∷ 97 ∷ []) (rw b refl))
   opens_kind o q (in_tail at gs k) s b h e = inl (h e, can_go_on (p ++ 32 ∷ 97 ∷ []) (rw b refl))
-  opens_kind o q (past_tail at gs f k) s b h e = inr (same_kind e, cannot (p ++ 32 ∷ 97 ∷ []) q bad_dot b)
+  opens_kind o q (past_tail at gs f k) s b h e = inr (same_kind e, cannot (p ++ 32 ∷ 97 ∷ []) q BadDot b)
   opens_kind o q (in_quote at k) s b h e = inl (h e, can_go_on (p ++ 32 ∷ 97 ∷ []) (rw b refl))
 
   between_kind : (o q : ℕ) (k : Stack) (b : ℕ) (c : Class) → class b ≡ c → Blank q k → (is_atom c ≡ true → atom_at_end [] p ≡ []) → is_tail k ≡ is_dot (class (last_byte false 0 p))
@@ -306,7 +308,7 @@ module _ (p : List ℕ) (n : ℕ) (kind : Kind) where
   between_kind o q k b plus i bl run last e = form_kind o k _ (λ h. absurd (cc)) e ∙ ap atom_kind (sym (run refl))
   between_kind o q k b minus i bl run last e = form_kind o k _ (λ h. absurd (cc)) e ∙ ap atom_kind (sym (run refl))
   between_kind o q k b opening i bl run last e = opens_kind o q k _ bl (level_kind o (ltb (depth k) 200) (between (o + 1) (in_list o none k)) (λ h. absurd (cc))) e
-  between_kind o q k b closing i bl run last e = close_kind o k e ∙ ap (λ x. if x then bad_dot else stray_close) last
+  between_kind o q k b closing i bl run last e = close_kind o k e ∙ ap (λ x. if x then BadDot else StrayClose) last
   between_kind o q k b mark i bl run last e = opens_kind o q k _ bl (level_kind o (ltb (depth k) 200) (between (o + 1) (in_quote o k)) (λ h. absurd (cc))) e
   between_kind o q k b semicolon i bl run last e = absurd (cc)
   between_kind o q k b dot i bl run last e = dot_kind o k e
@@ -336,7 +338,7 @@ module _ (p : List ℕ) (n : ℕ) (kind : Kind) where
   after_fault o k b digit i bl run last tail e = same_kind e ∙ ap atom_kind (sym run)
   after_fault o k b plus i bl run last tail e = same_kind e ∙ ap atom_kind (sym run)
   after_fault o k b minus i bl run last tail e = same_kind e ∙ ap atom_kind (sym run)
-  after_fault o k b closing i bl run last tail e = same_kind e ∙ ap (λ x. if x then bad_dot else stray_close) (sym last)
+  after_fault o k b closing i bl run last tail e = same_kind e ∙ ap (λ x. if x then BadDot else StrayClose) (sym last)
   after_fault o k b dot i bl run last tail e = same_kind e
   after_fault o k b other i bl run last tail e = same_kind e
 
@@ -352,7 +354,7 @@ module _ (p : List ℕ) (n : ℕ) (kind : Kind) where
   fault_kind (after_dot o k) b is g run (c, last) e = after_fault o k b (class b) refl (scan_append start p (32 ∷ 97 ∷ []) ∙ ap (λ s. scan s (32 ∷ 97 ∷ [])) is) run last.1 last.2 e
   fault_kind (bad at h) b is g run last e = absurd (cc)
 
-first_fault : (b : List ℕ) (n : ℕ) (kind : Kind) → FaultsAt b n → FirstBad start 0 b n kind → ByteFault b n kind
+first_fault : (b : List ℕ) (n : ℕ) (kind : FaultKind) → FaultsAt b n → FirstBad start 0 b n kind → ByteFault b n kind
 first_fault b n kind least h =
     let place : n ≡ length h.front = omega (arith, h.is_at) in
     let steps : step (scan start h.front) h.byte ≡ bad n kind = sym (scan_append start h.front (h.byte ∷ [])) ∙ h.bad_then in
@@ -366,5 +368,5 @@ first_fault b n kind least h =
       has_kind = fault_kind h.front n kind (scan start h.front) h.byte refl h.good (runs h.front start [] refl) (lasts h.front start false 0 (refl, refl)) steps;
     }
 
-pub text_fault : (b : List ℕ) (n : ℕ) (kind : Kind) → scan start b ≡ bad n kind → ByteFault b n kind
+pub text_fault : (b : List ℕ) (n : ℕ) (kind : FaultKind) → scan start b ≡ bad n kind → ByteFault b n kind
 text_fault b n kind e = first_fault b n kind (fault_is b n kind e) (subst (Reached start 0 b) e (reaches b start refl))

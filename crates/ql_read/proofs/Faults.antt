@@ -3,7 +3,8 @@ use Rattle.std.proofs.Common.{◌≡◌, ℕ, zero, suc, ◌+◌, ◌<◌, ◌�
 use Rattle.std.specs.Prelude.{ltb, if◌then◌else◌}
 use Rattle.ql_forms.specs.Bytes.{Class, blank, letter, digit, plus, minus, opening, closing, mark, semicolon, dot, other, class}
 use Rattle.ql_forms.specs.Spelled.{none, more}
-use Rattle.ql_read.specs.TextFault.{CanGoOn, Kind, FaultsAt}
+use Rattle.ql_base.specs.declared.refusal.FaultKind.{FaultKind}
+use Rattle.ql_read.specs.TextFault.{CanGoOn, FaultsAt}
 use Rattle.ql_read.specs.Scan.{Token, next, token_form, Stack, top, in_list, in_tail, past_tail, in_quote, depth, push, State, between, in_comment, in_atom, after_dot, bad, close, put_dot, form_in, step_between, atom_or_bad, step_atom, step_dot, step, scan, start, fault_of}
 use Rattle.ql_read.proofs.GoesOn.{scan_append, stays_bad, can_go_on, cannot}
 
@@ -99,7 +100,7 @@ took (after_dot o k) b h = took_after o k b (class b)
 took (bad at kind) b h = absurd (cc)
 
 -- the fault of a text read from s stands at a byte with none before it
-pub record FirstBad (s : State) (o : ℕ) (t : List ℕ) (at : ℕ) (kind : Kind) : Type 0 where
+pub record FirstBad (s : State) (o : ℕ) (t : List ℕ) (at : ℕ) (kind : FaultKind) : Type 0 where
   pub front : List ℕ
   pub byte : ℕ
   pub rest : List ℕ
@@ -166,7 +167,7 @@ take_all : (p : List ℕ) (x : ℕ) (r : List ℕ) → take (suc (length p)) (p 
 take_all [] x r = refl
 take_all (y ∷ p) x r = ap (λ z. y ∷ z) (take_all p x r)
 
-module _ (b : List ℕ) (n : ℕ) (kind : Kind) (h : FirstBad start 0 b n kind) where
+module _ (b : List ℕ) (n : ℕ) (kind : FaultKind) (h : FirstBad start 0 b n kind) where
   open h use {front, byte, rest}
 
   length_is : n ≡ length front
@@ -192,5 +193,5 @@ module _ (b : List ℕ) (n : ℕ) (kind : Kind) (h : FirstBad start 0 b n kind) 
   faults : FaultsAt b n
   faults = record { there = omega (arith, length_is, length_all); before = goes; none_goes_on = stops }
 
-pub fault_is : (b : List ℕ) (n : ℕ) (kind : Kind) → scan start b ≡ bad n kind → FaultsAt b n
+pub fault_is : (b : List ℕ) (n : ℕ) (kind : FaultKind) → scan start b ≡ bad n kind → FaultsAt b n
 fault_is b n kind e = faults b n kind (subst (Reached start 0 b) e (reaches b start refl))

@@ -2,7 +2,8 @@
 use Rattle.std.proofs.Common.{◌≡◌, ℕ, ◌+◌, List, [], ◌∷◌, ◌++◌, Some, None, refl, ap, ◌∙◌}
 use Rattle.ql_forms.specs.Spelled.{Form, symbol, list_form, quote_form, Forms, none, more, plain, with_tail, atom}
 use Rattle.ql_forms.specs.Spells.{Spells}
-use Rattle.ql_read.specs.TextFault.{CanGoOn, Kind}
+use Rattle.ql_base.specs.declared.refusal.FaultKind.{FaultKind}
+use Rattle.ql_read.specs.TextFault.{CanGoOn}
 use Rattle.ql_read.specs.Scan.{token_form, Stack, top, in_list, in_tail, past_tail, in_quote, onto, push, State, between, in_comment, in_atom, after_dot, bad, step, scan, start, finish, fault_of}
 use Rattle.ql_read.proofs.Complete.{run, complete}
 use Rattle.ql_read.proofs.Sound.{sound}
@@ -36,14 +37,14 @@ pub scan_append : (s : State) (b c : List ℕ) → scan s (b ++ c) ≡ scan (sca
 scan_append s [] c = refl
 scan_append s (x ∷ b) c = scan_append (step s x) b c
 
-pub stays_bad : (at : ℕ) (kind : Kind) (c : List ℕ) → scan (bad at kind) c ≡ bad at kind
+pub stays_bad : (at : ℕ) (kind : FaultKind) (c : List ℕ) → scan (bad at kind) c ≡ bad at kind
 stays_bad at kind [] = refl
 stays_bad at kind (x ∷ c) = stays_bad at kind c
 
 pub can_go_on : (b : List ℕ) → fault_of (scan start b) ≡ None → CanGoOn b
 can_go_on b h = let (c, F, e) = can_end (scan start b) h in (c, F, sound (b ++ c) F (ap finish (scan_append start b c) ∙ e))
 
-pub cannot : (b : List ℕ) (at : ℕ) (kind : Kind) → scan start b ≡ bad at kind → CanGoOn b → Prim.⊥
+pub cannot : (b : List ℕ) (at : ℕ) (kind : FaultKind) → scan start b ≡ bad at kind → CanGoOn b → Prim.⊥
 cannot b at kind e (c, F, h) =
     let all : run start (b ++ c) ≡ Some F = complete (b ++ c) F h in
     let none_is : run start (b ++ c) ≡ None = ap finish (scan_append start b c ∙ ap (λ s. scan s c) e ∙ stays_bad at kind c) in

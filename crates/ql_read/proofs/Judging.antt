@@ -5,7 +5,8 @@ use Rattle.ql_forms.specs.Spelled.{Forms}
 use Rattle.ql_forms.specs.Spells.{Spells}
 use Rattle.ql_read.specs.TextFault.{CanGoOn, FaultsAt}
 use Rattle.ql_read.specs.Scan.{State, between, in_comment, in_atom, after_dot, bad, scan, start, fault_of}
-use Rattle.ql_read.specs.TextFault.{limit, NoneBelow, too_long, unfinished, number_of, by_byte, by_length, by_end, Verdict, refused, accepted}
+use Rattle.ql_base.specs.Refusal.{number_of}
+use Rattle.ql_read.specs.TextFault.{limit, NoneBelow, too_long, unfinished, by_byte, by_length, by_end, Verdict, refused, accepted}
 use Rattle.ql_read.proofs.Complete.{run, complete}
 use Rattle.ql_read.proofs.Sound.{sound}
 use Rattle.ql_read.proofs.GoesOn.{can_go_on}

@@ -1,12 +1,15 @@
 -- A text has at most one fault, and what a reader's state says of it.
-use Rattle.std.proofs.Common.{◌≡◌, ℕ, zero, suc, ◌+◌, ◌<◌, ◌≤◌, List, [], ◌∷◌, ◌++◌, length, take, Some, None, refl, sym, ap, ◌∙◌, subst, arith, append_assoc, length-append, ⊎_elim, inl, inr}
+use Rattle.std.proofs.Common.{◌≡◌, ℕ, zero, suc, ◌+◌, ◌<◌, ◌≤◌, Bool, true, false, if◌then◌else◌, List, [], ◌∷◌, ◌++◌, length, take, Some, None, refl, sym, ap, ◌∙◌, subst, arith, append_assoc, length-append, ⊎_elim, inl, inr}
 use Rattle.std.proofs.lemmas.Bool.{cases_lt}
 use Rattle.ql_forms.specs.Bytes.{Class, blank, letter, digit, plus, minus, opening, closing, mark, semicolon, dot, other, class}
 use Rattle.ql_forms.specs.Spelled.{Forms}
 use Rattle.ql_forms.specs.Form as numbered
 use Rattle.ql_forms.specs.Numbered.{Numbered}
-use Rattle.ql_forms.specs.Spells.{Spells}
-use Rattle.ql_read.specs.TextFault.{CanGoOn, FaultsAt, Kind, bad_byte, stray_close, bad_dot, bad_number, long_name, too_deep, number_of, too_long, unfinished, OpeningKind, HasKind, ByteFault, limit, NoneBelow, TextFault, by_byte, by_length, by_end, MayFollow, IsRefused, IsRead}
+use Rattle.ql_forms.specs.Spells.{is_numeric, Spells}
+use Rattle.ql_base.specs.declared.refusal.FaultKind.{FaultKind}
+use Rattle.ql_base.specs.declared.refusal.FaultKind.TheVariants.{BadByte, StrayClose, BadDot, BadNumber, LongName, TooDeep}
+use Rattle.ql_base.specs.Refusal.{number_of}
+use Rattle.ql_read.specs.TextFault.{CanGoOn, FaultsAt, too_long, unfinished, atom_at_end, is_dot, last_byte, atom_kind, OpeningKind, HasKind, ByteFault, limit, NoneBelow, TextFault, by_byte, by_length, by_end, MayFollow, IsRefused, IsRead}
 use Rattle.ql_read.specs.Scan.{bad, scan, start, finish, fault_of}
 use Rattle.ql_read.proofs.Complete.{run, complete}
 use Rattle.ql_read.proofs.Sound.{sound}
@@ -37,13 +40,13 @@ same_parts (a ∷ p) (b ∷ q) r s x y e h =
     let rest : p ++ x ∷ r ≡ q ++ y ∷ s = cc in
     let (i, j) = same_parts p q r s x y rest (omega (arith, h)) in (cc, j)
 
-one_opening : (p : List ℕ) (k l : Kind) → OpeningKind p k → OpeningKind p l → k ≡ l
+one_opening : (p : List ℕ) (k l : FaultKind) → OpeningKind p k → OpeningKind p l → k ≡ l
 one_opening p k l (inl (e, f)) (inl (i, g)) = cc
 one_opening p k l (inl (e, f)) (inr (i, g)) = absurd (g f)
 one_opening p k l (inr (e, f)) (inl (i, g)) = absurd (f g)
 one_opening p k l (inr (e, f)) (inr (i, g)) = cc
 
-one_kind : (p : List ℕ) (c : Class) (k l : Kind) → HasKind p c k → HasKind p c l → k ≡ l
+one_kind : (p : List ℕ) (c : Class) (k l : FaultKind) → HasKind p c k → HasKind p c l → k ≡ l
 one_kind p blank k l e i = absurd e
 one_kind p semicolon k l e i = absurd e
 one_kind p opening k l e i = one_opening p k l e i
@@ -56,7 +59,7 @@ one_kind p digit k l e i = e ∙ sym i
 one_kind p plus k l e i = e ∙ sym i
 one_kind p minus k l e i = e ∙ sym i
 
-one_byte_fault : (b : List ℕ) (m n : ℕ) (k l : Kind) → ByteFault b m k → ByteFault b n l → (k ≡ l) × (m ≡ n)
+one_byte_fault : (b : List ℕ) (m n : ℕ) (k l : FaultKind) → ByteFault b m k → ByteFault b n l → (k ≡ l) × (m ≡ n)
 one_byte_fault b m n k l f g =
     let place : m ≡ n = one_place b m n f.least g.least in
     let (front, byte) = same_parts f.front g.front f.rest g.rest f.byte g.byte (sym f.parts ∙ g.parts) (sym f.place ∙ place ∙ g.place) in
@@ -91,24 +94,56 @@ fault_spells_at (by_end none short not) c e fs h le = not fs (subst (λ x. Spell
 pub fault_spells : (b : List ℕ) (k n : ℕ) (fs : Forms) → Spells b fs → length b ≤ limit → TextFault b k n → Prim.⊥
 fault_spells b k n fs h le f = fault_spells_at f b refl fs h le
 
-pub small_kind : (k : Kind) → (1 ≤ number_of k) × (number_of k < unfinished)
-small_kind bad_byte = (omega arith, omega arith)
-small_kind stray_close = (omega arith, omega arith)
-small_kind bad_dot = (omega arith, omega arith)
-small_kind bad_number = (omega arith, omega arith)
-small_kind long_name = (omega arith, omega arith)
-small_kind too_deep = (omega arith, omega arith)
+-- the kinds of faults at a byte are the first six
+abbrev IsOfByte : FaultKind → Type 0
+IsOfByte kind = (1 ≤ number_of kind) × (number_of kind < unfinished)
+
+of_byte : (k l : FaultKind) → k ≡ l → IsOfByte l → IsOfByte k
+of_byte k l e h = subst IsOfByte (sym e) h
+
+of_opening : (p : List ℕ) (k : FaultKind) → OpeningKind p k → IsOfByte k
+of_opening p k (inl h) = of_byte k TooDeep h.0 (omega arith, omega arith)
+of_opening p k (inr h) = of_byte k BadDot h.0 (omega arith, omega arith)
+
+of_closing : (b : Bool) → IsOfByte (if b then BadDot else StrayClose)
+of_closing true = (omega arith, omega arith)
+of_closing false = (omega arith, omega arith)
+
+of_atom : (w : List ℕ) → IsOfByte (atom_kind w)
+of_atom [] = (omega arith, omega arith)
+of_atom (b ∷ w) = either (is_numeric (b ∷ w))
+  where
+    either : (n : Bool) → IsOfByte (if n then BadNumber else LongName)
+    either true = (omega arith, omega arith)
+    either false = (omega arith, omega arith)
+
+of_class : (p : List ℕ) (c : Class) (k : FaultKind) → HasKind p c k → IsOfByte k
+of_class p blank k h = absurd h
+of_class p semicolon k h = absurd h
+of_class p opening k h = of_opening p k h
+of_class p mark k h = of_opening p k h
+of_class p closing k h = of_byte k _ h (of_closing (is_dot (class (last_byte false 0 p))))
+of_class p dot k h = of_byte k BadDot h (omega arith, omega arith)
+of_class p other k h = of_byte k BadByte h (omega arith, omega arith)
+of_class p letter k h = of_byte k _ h (of_atom (atom_at_end [] p))
+of_class p digit k h = of_byte k _ h (of_atom (atom_at_end [] p))
+of_class p plus k h = of_byte k _ h (of_atom (atom_at_end [] p))
+of_class p minus k h = of_byte k _ h (of_atom (atom_at_end [] p))
+
+pub small_kind : (b : List ℕ) (n : ℕ) (k : FaultKind) → ByteFault b n k → (1 ≤ number_of k) × (number_of k < unfinished)
+small_kind b n k f = of_class f.front (class f.byte) k f.has_kind
 
 -- one fault of a text and of what may go on from it makes a refusal
-refused_by : (b : List ℕ) (k n : ℕ) → (1 ≤ k) × (k ≤ unfinished) → n ≤ length b → (k < unfinished → n < length b) → ((rest : List ℕ) → MayFollow k rest → TextFault (b ++ rest) k n) → IsRefused b k n
-refused_by b k n kinds le lt f = record { kinds = kinds; fault = f; only = λ rest may l m g. one_fault (b ++ rest) l k m n g (f rest may); place = le; within = lt }
+refused_by : (b : List ℕ) (k n : ℕ) → (1 ≤ k) × (k ≤ unfinished) → n ≤ length b → (k < unfinished → n < length b) → (unfinished ≤ k → n ≡ length b) → ((rest : List ℕ) → MayFollow k rest → TextFault (b ++ rest) k n) → IsRefused b k n
+refused_by b k n kinds le lt late f = record { kinds = kinds; fault = f; only = λ rest may l m g. one_fault (b ++ rest) l k m n g (f rest may); place = le; within = lt; late = late }
 
 -- reading found a byte at fault
-pub byte_refused : (b : List ℕ) (n : ℕ) (kind : Kind) → scan start b ≡ bad n kind → n < limit → IsRefused b (number_of kind) n
+pub byte_refused : (b : List ℕ) (n : ℕ) (kind : FaultKind) → scan start b ≡ bad n kind → n < limit → IsRefused b (number_of kind) n
 byte_refused b n kind e lt =
-    let (low, high) = small_kind kind in
-    let there : n < length b = let f = text_fault b n kind e in f.least.there in
-    refused_by b (number_of kind) n (low, omega (arith, high)) (omega (arith, there)) (λ k. there)
+    let f = text_fault b n kind e in
+    let (low, high) = small_kind b n kind f in
+    let there : n < length b = f.least.there in
+    refused_by b (number_of kind) n (low, omega (arith, high)) (omega (arith, there)) (λ k. there) (λ k. absurd (omega (arith, k, high)))
     (λ rest may. by_byte lt (text_fault (b ++ rest) n kind (scan_append start b rest ∙ ap (λ s. scan s rest) e ∙ stays_bad n kind rest)))
 
 pub take_within : (n : ℕ) (p r : List ℕ) → n ≤ length p → take n (p ++ r) ≡ take n p
@@ -124,7 +159,7 @@ pub length_refused : (p : List ℕ) (x : ℕ) → fault_of (scan start p) ≡ No
 length_refused p x h e =
     let all : length (p ++ x ∷ []) ≡ length p + 1 = length-append {A = ℕ} p (x ∷ []) in
     let there : limit < length (p ++ x ∷ []) = omega (arith, all, e) in
-    refused_by (p ++ x ∷ []) too_long limit (omega arith, omega arith) (omega (arith, there)) (λ k. there)
+    refused_by (p ++ x ∷ []) too_long limit (omega arith, omega arith) (omega (arith, there)) (λ k. there) (λ k. absurd (omega (arith, k)))
     (λ rest may. subst (λ t. TextFault t too_long limit) (sym (longer p x rest))
     (by_length (good_below p (x ∷ rest) h (omega (arith, e))) (omega (arith, length-append {A = ℕ} p (x ∷ rest), e))))
   where
@@ -136,7 +171,7 @@ length_refused p x h e =
 pub refused_front : (b c : List ℕ) (k n : ℕ) → IsRefused b k n → k < unfinished → IsRefused (b ++ c) k n
 refused_front b c k n f lt =
     let there : n < length (b ++ c) = let w : n < length b = f.within lt in omega (arith, length-append {A = ℕ} b c, w) in
-    refused_by (b ++ c) k n f.kinds (omega (arith, there)) (λ h. there)
+    refused_by (b ++ c) k n f.kinds (omega (arith, there)) (λ h. there) (λ h. absurd (omega (arith, h, lt)))
     (λ rest may. subst (λ t. TextFault t k n) (sym (append_all b c rest)) (f.fault (c ++ rest) (λ e. absurd (omega (arith, e, lt)))))
   where
     append_all : (x y z : List ℕ) → (x ++ y) ++ z ≡ x ++ (y ++ z)
@@ -150,7 +185,7 @@ none_in b h = λ n lt f. f.none_goes_on (front_can (n + 1) b (can_go_on b h))
 pub end_refused : (b : List ℕ) → fault_of (scan start b) ≡ None → length b ≤ limit → finish (scan start b) ≡ None → IsRefused b unfinished (length b)
 end_refused b h le e =
     let no : (fs : Forms) → Spells b fs → Prim.⊥ = λ fs i. let c : run start b ≡ Some fs = complete b fs i in absurd (cc) in
-    refused_by b unfinished (length b) (omega arith, omega arith) (omega arith) (λ lt. absurd (omega (arith, lt)))
+    refused_by b unfinished (length b) (omega arith, omega arith) (omega arith) (λ lt. absurd (omega (arith, lt))) (λ k. refl)
     (λ rest may. subst (λ t. TextFault t unfinished (length b)) (sym (ap (λ r. b ++ r) (may refl) ∙ append_none b)) (by_end (none_in b h) le no))
   where
     append_none : (w : List ℕ) → w ++ [] ≡ w

@@ -5,7 +5,8 @@ use Rattle.std.proofs.lemmas.Bool.{ltb-true}
 use Rattle.ql_forms.specs.Bytes.{Class, blank, letter, digit, plus, minus, opening, closing, mark, semicolon, dot, other, class, is_atom}
 use Rattle.ql_forms.specs.Spelled.{Form, list_form, quote_form, Forms, none, more, Ending, plain, with_tail}
 use Rattle.ql_forms.specs.Spells.{Comment, at_end, at_line_feed, beyond, Gap, nothing, a_blank, a_comment, AfterAtom, Run, ends, goes_on, AfterDot, IsForm, an_atom, a_list, a_quote, AreItems, closed, an_item, a_tail, AreForms, ended, a_form, Spells}
-use Rattle.ql_read.specs.TextFault.{Kind, too_deep}
+use Rattle.ql_base.specs.declared.refusal.FaultKind.{FaultKind}
+use Rattle.ql_base.specs.declared.refusal.FaultKind.TheVariants.{TooDeep}
 use Rattle.ql_read.specs.Scan.{Token, first, next, token_form, Stack, top, in_list, in_tail, past_tail, in_quote, depth, onto, push, State, between, in_comment, in_atom, after_dot, bad, close, put_dot, form_in, step_between, atom_or_bad, step_atom, step_dot, step, start, whole, finish, has_any}
 use Rattle.ql_read.proofs.Tokens.{Goes, goes_is}
 use Rattle.ql_read.proofs.Complete.{run, IsOpen}
@@ -79,7 +80,7 @@ skips F (past_tail at gs f k) g (s, c, u, h, e, a) = (s, c, u, joins g h, e, a)
 skips F (in_quote at k) g (f, q, v, i, a) = (f, q, v, form_after g i, a)
 
 module _ (F : Forms) where
-  chosen : (c : Bool) (s : State) (n : ℕ) (kind : Kind) (t : List ℕ) → Completes F (if c then s else bad n kind) t → (c ≡ true) × Completes F s t
+  chosen : (c : Bool) (s : State) (n : ℕ) (kind : FaultKind) (t : List ℕ) → Completes F (if c then s else bad n kind) t → (c ≡ true) × Completes F s t
   chosen true s n kind t h = (refl, h)
   chosen false s n kind t h = absurd h
 
@@ -118,12 +119,12 @@ module _ (F : Forms) where
   back_between o k b t minus e h = atom_back o k b t (rw e refl) (rw e h)
   back_between o k b t opening e h =
       let (can, h') = where_open o k _ t h in
-      let (room, (fs, e', p, u, is, a)) = chosen (ltb (depth k) 200) (between (o + 1) (in_list o none k)) o too_deep t h' in
+      let (room, (fs, e', p, u, is, a)) = chosen (ltb (depth k) 200) (between (o + 1) (in_list o none k)) o TooDeep t h' in
       begins F k (list_form o fs e') o (b ∷ t) p u can (a_list nothing e (ltb-true _ _ room) is) a
   back_between o k b t closing e h = closes o b k t e h
   back_between o k b t mark e h =
       let (can, h') = where_open o k _ t h in
-      let (room, (f, p, u, i, a)) = chosen (ltb (depth k) 200) (between (o + 1) (in_quote o k)) o too_deep t h' in
+      let (room, (f, p, u, i, a)) = chosen (ltb (depth k) 200) (between (o + 1) (in_quote o k)) o TooDeep t h' in
       begins F k (quote_form o f) o (b ∷ t) p u can (a_quote nothing e (ltb-true _ _ room) i) a
   back_between o k b t semicolon e (p, u, c, h) = skips F k (a_comment e c nothing) h
   back_between o k b t dot e h = dots o b k t e h

@@ -7,7 +7,7 @@ use Rattle.ql_forms.specs.Bytes.{Class}
 use Rattle.ql_forms.specs.Spelled.{none}
 use Rattle.ql_forms.specs.declared.form.Form.{Form as Value}
 use Rattle.ql_read.specs.ByteClass.{start_told}
-use Rattle.ql_read.specs.TextFault.{too_deep}
+use Rattle.ql_base.specs.declared.refusal.FaultKind.TheVariants.{TooDeep}
 use Rattle.ql_read.specs.Scan.{Token as Spelled, token_form, Stack, in_list, depth, push, State, between, bad, form_in, step_between, step_atom}
 use Rattle.ql_read.specs.View.{backward, state_of, deeper_at, form_from}
 use Rattle.ql_read.specs.declared.byte_class.FormStart.{FormStart}
@@ -24,7 +24,7 @@ answers_same r o k s t h e = subst (λ z. IfOk r (λ x. state_of x (o + 1) k ≡
 
 pub opens : (later : List (List ℕ)) (o b : ℕ) (k : Stack) (s : FormStart) (v : Vec Value) → v.items ≡ [] → s ≡ Opening → deeper_at later o (InList o v) k ≡ form_from o k b (start_told s)
 opens later o b k s v e i =
-    ap (λ xs. if ltb (depth k) 200 then between (o + 1) (in_list o (backward later none xs) k) else bad o too_deep) e ∙ sym (ap (λ z. form_from o k b (start_told z)) i)
+    ap (λ xs. if ltb (depth k) 200 then between (o + 1) (in_list o (backward later none xs) k) else bad o TooDeep) e ∙ sym (ap (λ z. form_from o k b (start_told z)) i)
 
 pub starts : (o b : ℕ) (k : Stack) (s : FormStart) (y : Class) → start_told s ≡ y → form_in o k (form_from o k b (start_told s)) ≡ step_between o k b y
 starts o b k Letter y e = ap (step_between o k b) e

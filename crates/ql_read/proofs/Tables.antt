@@ -6,7 +6,8 @@ use Rattle.ql_base.specs.Names.{reserved, with_name, with_names}
 use Rattle.ql_forms.specs.Bytes.{Class, blank, letter, digit, plus, minus, opening, closing, mark, semicolon, dot, other, class}
 use Rattle.ql_forms.specs.Spelled.{Form, Forms, none, more, integer, symbol, atom, list, proper, dotted, joined, plain, with_tail, with_last, list_form, quote_form, letters_of, letters_in_tail, symbols_of, symbols_in}
 use Rattle.ql_read.specs.Numbering.{GoesOn, stack_names, state_names, pending, ended_by, ended}
-use Rattle.ql_read.specs.TextFault.{Kind, bad_byte, stray_close, bad_dot, too_deep}
+use Rattle.ql_base.specs.declared.refusal.FaultKind.{FaultKind}
+use Rattle.ql_base.specs.declared.refusal.FaultKind.TheVariants.{BadByte, StrayClose, BadDot, TooDeep}
 use Rattle.ql_read.specs.Scan.{Token, first, next, token_atom, token_form, token_kind, Stack, top, in_list, in_tail, past_tail, in_quote, depth, onto, push, State, between, in_comment, in_atom, after_dot, bad, close, put_dot, form_in, step_between, atom_or_bad, step_atom, step_dot, step, scan, whole, finish, fault_of}
 use Rattle.ql_read.proofs.Naming.{same_text, names_append, append_none, goes_on_before, goes_on_same, word_known}
 
@@ -68,7 +69,7 @@ well_in o (in_tail at fs k) s h f = f h
 well_in o (past_tail at fs g k) s h f = tt
 well_in o (in_quote at k) s h f = f h
 
-well_level : (o : ℕ) (kind : Kind) (b : Bool) (s : State) → IsWellState s → IsWellState (if b then s else bad o kind)
+well_level : (o : ℕ) (kind : FaultKind) (b : Bool) (s : State) → IsWellState s → IsWellState (if b then s else bad o kind)
 well_level o kind true s h = h
 well_level o kind false s h = tt
 
@@ -93,9 +94,9 @@ well_between o k b letter h = well_in o k (in_atom (o + 1) o (first b letter) k)
 well_between o k b digit h = well_in o k (in_atom (o + 1) o (first b digit) k) h (λ i. i)
 well_between o k b plus h = well_in o k (in_atom (o + 1) o (first b plus) k) h (λ i. i)
 well_between o k b minus h = well_in o k (in_atom (o + 1) o (first b minus) k) h (λ i. i)
-well_between o k b opening h = well_in o k _ h (λ i. well_level o too_deep (ltb (depth k) 200) (between (o + 1) (in_list o none k)) i)
+well_between o k b opening h = well_in o k _ h (λ i. well_level o TooDeep (ltb (depth k) 200) (between (o + 1) (in_list o none k)) i)
 well_between o k b closing h = well_close o k h
-well_between o k b mark h = well_in o k _ h (λ i. well_level o too_deep (ltb (depth k) 200) (between (o + 1) (in_quote o k)) i)
+well_between o k b mark h = well_in o k _ h (λ i. well_level o TooDeep (ltb (depth k) 200) (between (o + 1) (in_quote o k)) i)
 well_between o k b semicolon h = h
 well_between o k b dot h = well_put_dot o k h
 well_between o k b other h = tt
@@ -208,34 +209,34 @@ dotted_names ns at (more e fs) f g h =
 abbrev Keeps : List (List ℕ) → State → Type 0
 Keeps ns s = fault_of s ≡ None → state_names s ≡ ns
 
-keeps_bad : (ns : List (List ℕ)) (at : ℕ) (kind : Kind) → Keeps ns (bad at kind)
+keeps_bad : (ns : List (List ℕ)) (at : ℕ) (kind : FaultKind) → Keeps ns (bad at kind)
 keeps_bad ns at kind e = absurd (cc)
 
 keeps_in : (ns : List (List ℕ)) (o : ℕ) (k : Stack) (s : State) → Keeps ns s → Keeps ns (form_in o k s)
 keeps_in ns o (top fs) s h = h
 keeps_in ns o (in_list at fs k) s h = h
 keeps_in ns o (in_tail at fs k) s h = h
-keeps_in ns o (past_tail at fs f k) s h = keeps_bad ns o bad_dot
+keeps_in ns o (past_tail at fs f k) s h = keeps_bad ns o BadDot
 keeps_in ns o (in_quote at k) s h = h
 
-keeps_level : (ns : List (List ℕ)) (o : ℕ) (b : Bool) (s : State) → Keeps ns s → Keeps ns (if b then s else bad o too_deep)
+keeps_level : (ns : List (List ℕ)) (o : ℕ) (b : Bool) (s : State) → Keeps ns s → Keeps ns (if b then s else bad o TooDeep)
 keeps_level ns o true s h = h
-keeps_level ns o false s h = keeps_bad ns o too_deep
+keeps_level ns o false s h = keeps_bad ns o TooDeep
 
 names_close : (o : ℕ) (k : Stack) → IsWell k → Keeps (stack_names k) (close o k)
-names_close o (top fs) h = keeps_bad _ o stray_close
+names_close o (top fs) h = keeps_bad _ o StrayClose
 names_close o (in_list at fs k) h = λ e. names_push (list_form at (onto fs none) plain) k h ∙ proper_names (stack_names k) at (onto fs none) (begins k)
-names_close o (in_tail at fs k) h = keeps_bad _ o bad_dot
+names_close o (in_tail at fs k) h = keeps_bad _ o BadDot
 names_close o (past_tail at fs f k) h = λ e. names_push (list_form at (onto fs none) (with_tail f)) k h.1 ∙ dotted_names (stack_names k) at fs f (begins k) h.0
-names_close o (in_quote at k) h = keeps_bad _ o stray_close
+names_close o (in_quote at k) h = keeps_bad _ o StrayClose
 
 names_put_dot : (o : ℕ) (k : Stack) → Keeps (stack_names k) (put_dot o k)
-names_put_dot o (top fs) = keeps_bad _ o bad_dot
-names_put_dot o (in_list at none k) = keeps_bad _ o bad_dot
+names_put_dot o (top fs) = keeps_bad _ o BadDot
+names_put_dot o (in_list at none k) = keeps_bad _ o BadDot
 names_put_dot o (in_list at (more f fs) k) = λ e. refl
-names_put_dot o (in_tail at fs k) = keeps_bad _ o bad_dot
-names_put_dot o (past_tail at fs f k) = keeps_bad _ o bad_dot
-names_put_dot o (in_quote at k) = keeps_bad _ o bad_dot
+names_put_dot o (in_tail at fs k) = keeps_bad _ o BadDot
+names_put_dot o (past_tail at fs f k) = keeps_bad _ o BadDot
+names_put_dot o (in_quote at k) = keeps_bad _ o BadDot
 
 names_between : (o : ℕ) (k : Stack) (b : ℕ) (y : Class) → IsWell k → Keeps (stack_names k) (step_between o k b y)
 names_between o k b blank h = λ e. refl
@@ -248,7 +249,7 @@ names_between o k b closing h = names_close o k h
 names_between o k b mark h = keeps_in (stack_names k) o k _ (keeps_level (stack_names k) o (ltb (depth k) 200) (between (o + 1) (in_quote o k)) (λ e. refl))
 names_between o k b semicolon h = λ e. refl
 names_between o k b dot h = names_put_dot o k
-names_between o k b other h = keeps_bad (stack_names k) o bad_byte
+names_between o k b other h = keeps_bad (stack_names k) o BadByte
 
 keeps_next : (o at : ℕ) (w : Token) (k : Stack) (x : Option Token) → Keeps (stack_names k) (atom_or_bad o at w k x)
 keeps_next o at w k (Some v) = λ e. refl
@@ -263,7 +264,7 @@ names_atom o at w k b letter h = keeps_next o at w k (next w b letter)
 names_atom o at w k b digit h = keeps_next o at w k (next w b digit)
 names_atom o at w k b plus h = keeps_next o at w k (next w b plus)
 names_atom o at w k b minus h = keeps_next o at w k (next w b minus)
-names_atom o at w k b dot h = keeps_bad _ o bad_dot
+names_atom o at w k b dot h = keeps_bad _ o BadDot
 names_atom o at w k b blank h = names_after o at w k b blank h
 names_atom o at w k b opening h = names_after o at w k b opening h
 names_atom o at w k b closing h = names_after o at w k b closing h
@@ -273,16 +274,16 @@ names_atom o at w k b other h = names_after o at w k b other h
 
 names_dot : (o : ℕ) (k : Stack) (b : ℕ) (y : Class) → IsWell k → Keeps (stack_names k) (step_dot o k b y)
 names_dot o k b blank h = names_between o k b blank h
-names_dot o k b letter h = keeps_bad _ o bad_dot
-names_dot o k b digit h = keeps_bad _ o bad_dot
-names_dot o k b plus h = keeps_bad _ o bad_dot
-names_dot o k b minus h = keeps_bad _ o bad_dot
+names_dot o k b letter h = keeps_bad _ o BadDot
+names_dot o k b digit h = keeps_bad _ o BadDot
+names_dot o k b plus h = keeps_bad _ o BadDot
+names_dot o k b minus h = keeps_bad _ o BadDot
 names_dot o k b opening h = names_between o k b opening h
-names_dot o k b closing h = keeps_bad _ o bad_dot
+names_dot o k b closing h = keeps_bad _ o BadDot
 names_dot o k b mark h = names_between o k b mark h
 names_dot o k b semicolon h = names_between o k b semicolon h
-names_dot o k b dot h = keeps_bad _ o bad_dot
-names_dot o k b other h = keeps_bad _ o bad_byte
+names_dot o k b dot h = keeps_bad _ o BadDot
+names_dot o k b other h = keeps_bad _ o BadByte
 
 names_line : (o : ℕ) (k : Stack) (b : Bool) → state_names (if b then between o k else in_comment o k) ≡ stack_names k
 names_line o k true = refl

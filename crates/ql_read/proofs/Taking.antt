@@ -2,7 +2,9 @@
 use Rattle.std.proofs.Common.{◌≡◌, ℕ, zero, suc, ◌+◌, ◌<◌, ◌≤◌, List, [], ◌∷◌, ◌++◌, length, take, Some, None, refl, sym, ap, ◌∙◌, subst, arith, length-append, append_assoc, drop, get_or, ⊎_elim}
 use Rattle.std.proofs.lemmas.Bool.{cases_lt}
 use Rattle.std.proofs.lemmas.List.{take_all}
-use Rattle.ql_read.specs.TextFault.{CanGoOn, Kind, number_of, too_long, unfinished, limit, by_byte, by_length, by_end, NoFaultIn, IsRefused}
+use Rattle.ql_base.specs.declared.refusal.FaultKind.{FaultKind}
+use Rattle.ql_base.specs.Refusal.{number_of}
+use Rattle.ql_read.specs.TextFault.{CanGoOn, too_long, unfinished, limit, by_byte, by_length, by_end, NoFaultIn, IsRefused}
 use Rattle.ql_base.specs.Names.{reserved, with_names}
 use Rattle.ql_read.specs.Numbering.{GoesOn, state_names, ended}
 use Rattle.ql_read.specs.View.{nested, state_of}
@@ -77,10 +79,10 @@ taken_one old refused taken next nesting p b token h r n lt same s names g =
       short = omega (arith, lt, before, counted);
     }
 
-some_is : (x y : ℕ × Kind) → Some x ≡ Some y → x ≡ y
+some_is : (x y : ℕ × FaultKind) → Some x ≡ Some y → x ≡ y
 some_is x y e = cc
 
-is_bad : (s : State) (at : ℕ) (kind : Kind) → fault_of s ≡ Some (at, kind) → s ≡ bad at kind
+is_bad : (s : State) (at : ℕ) (kind : FaultKind) → fault_of s ≡ Some (at, kind) → s ≡ bad at kind
 is_bad (between o k) at kind e = absurd (cc)
 is_bad (in_comment o k) at kind e = absurd (cc)
 is_bad (in_atom o m w k) at kind e = absurd (cc)
@@ -88,7 +90,7 @@ is_bad (after_dot o k) at kind e = absurd (cc)
 is_bad (bad m l) at kind e = ap (λ z. bad z.0 z.1) (some_is (m, l) (at, kind) e)
 
 -- a fault after bytes without one stands at the next byte
-fault_here : (p : List ℕ) (b at : ℕ) (kind : Kind) → fault_of (scan start p) ≡ None → scan start (p ++ b ∷ []) ≡ bad at kind → at ≡ length p
+fault_here : (p : List ℕ) (b at : ℕ) (kind : FaultKind) → fault_of (scan start p) ≡ None → scan start (p ++ b ∷ []) ≡ bad at kind → at ≡ length p
 fault_here p b at kind g e =
     let f = text_fault (p ++ b ∷ []) at kind e in
     let there : at < length (p ++ b ∷ []) = f.least.there in
@@ -98,7 +100,7 @@ fault_here p b at kind g e =
     (λ (le : length p ≤ at). omega (arith, there, all, le))
     (cases_lt at (length p))
 
-pub byte_is_bad : (old : Reader) (s : State) (p : List ℕ) (b at : ℕ) (kind : Kind) → HasTaken old p → old.taken < limit → s ≡ scan start (p ++ b ∷ []) → fault_of s ≡ Some (at, kind)
+pub byte_is_bad : (old : Reader) (s : State) (p : List ℕ) (b at : ℕ) (kind : FaultKind) → HasTaken old p → old.taken < limit → s ≡ scan start (p ++ b ∷ []) → fault_of s ≡ Some (at, kind)
     → IsRefused (p ++ b ∷ []) (number_of kind) at
 byte_is_bad old s p b at kind h lt e f =
     let is : scan start (p ++ b ∷ []) ≡ bad at kind = sym e ∙ is_bad s at kind f in
@@ -106,11 +108,11 @@ byte_is_bad old s p b at kind h lt e f =
     let before : old.taken ≡ length p = h.counted in
     byte_refused (p ++ b ∷ []) at kind is (omega (arith, here, before, lt))
 
-pub bad_is_here : (old : Reader) (s : State) (p : List ℕ) (b at : ℕ) (kind : Kind) → HasTaken old p → s ≡ scan start (p ++ b ∷ []) → fault_of s ≡ Some (at, kind)
+pub bad_is_here : (old : Reader) (s : State) (p : List ℕ) (b at : ℕ) (kind : FaultKind) → HasTaken old p → s ≡ scan start (p ++ b ∷ []) → fault_of s ≡ Some (at, kind)
     → (at ≡ length p) × (number_of kind < unfinished)
 bad_is_here old s p b at kind h e f =
     let is : scan start (p ++ b ∷ []) ≡ bad at kind = sym e ∙ is_bad s at kind f in
-    (fault_here p b at kind h.no_fault is, (small_kind kind).1)
+    (fault_here p b at kind h.no_fault is, (small_kind (p ++ b ∷ []) at kind (text_fault (p ++ b ∷ []) at kind is)).1)
 
 pub one_too_many : (old : Reader) (p : List ℕ) (b : ℕ) → HasTaken old p → limit ≤ old.taken → IsRefused (p ++ b ∷ []) too_long limit × (limit ≡ length p)
 one_too_many old p b h le =

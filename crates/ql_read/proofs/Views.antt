@@ -7,7 +7,7 @@ use Rattle.std.proofs.lemmas.Bool.{lt-ltb, le-ltb, ne_eqb}
 use Rattle.ql_forms.specs.Spelled.{Form, list_form, quote_form, Forms, none, more, plain, with_tail}
 use Rattle.ql_forms.specs.View.{spelling_of, spellings_of}
 use Rattle.ql_forms.specs.declared.form.Form.{Form as Value}
-use Rattle.ql_read.specs.TextFault.{bad_dot, too_deep, stray_close}
+use Rattle.ql_base.specs.declared.refusal.FaultKind.TheVariants.{BadDot, TooDeep, StrayClose}
 use Rattle.ql_read.specs.Scan.{Stack, top, in_list, in_tail, past_tail, in_quote, depth, onto, push, State, between, after_dot, bad, close, put_dot, form_in}
 use Rattle.ql_read.specs.View.{backward, frame_on, frames_on, stack_of, deeper_at, is_past}
 use Rattle.ql_read.specs.declared.nesting.Frame.{Frame}
@@ -65,7 +65,7 @@ module _ (names : List (List ℕ)) where
       let room : ltb (depth (stack_of names fs xs)) 200 ≡ true = lt-ltb _ _ (omega (arith, h, lt)) in
       rw room (ap (between (o + 1)) (on_last gs fs f xs e))
 
-  pub deeper_not : (o : ℕ) (f : Frame) (fs : List Frame) (xs : List Value) → 200 ≤ length fs → bad o too_deep ≡ deeper_at names o f (stack_of names fs xs)
+  pub deeper_not : (o : ℕ) (f : Frame) (fs : List Frame) (xs : List Value) → 200 ≤ length fs → bad o TooDeep ≡ deeper_at names o f (stack_of names fs xs)
   deeper_not o f fs xs le =
       let h : depth (frames_on names (top (backward names none xs)) fs) ≡ length fs + 0 = depth_is (top (backward names none xs)) fs in
       let room : ltb (depth (stack_of names fs xs)) 200 ≡ false = le-ltb _ _ (omega (arith, h, le)) in
@@ -86,20 +86,20 @@ module _ (names : List (List ℕ)) where
   pub close_bad : (o : ℕ) (s : State) (fs gs : List Frame) (f : Frame) (xs : List Value) → fs ≡ gs ++ f ∷ [] → close o (frame_on names (stack_of names gs xs) f) ≡ s → s ≡ close o (stack_of names fs xs)
   close_bad o s fs gs f xs e h = sym (ap (close o) (on_last fs gs f xs e) ∙ h)
 
-  pub close_top : (o : ℕ) (fs : List Frame) (xs : List Value) → fs ≡ [] → bad o stray_close ≡ close o (stack_of names fs xs)
+  pub close_top : (o : ℕ) (fs : List Frame) (xs : List Value) → fs ≡ [] → bad o StrayClose ≡ close o (stack_of names fs xs)
   close_top o fs xs e = rw e refl
 
   backward_more : (f : Form) (fs : Forms) (xs : List Value) → (g : Form) × (gs : Forms) × (backward names (more f fs) xs ≡ more g gs)
   backward_more f fs [] = (f, fs, refl)
   backward_more f fs (x ∷ xs) = backward_more (spelling_of names x) (more f fs) xs
 
-  pub dot_bad : (o : ℕ) (fs gs : List Frame) (f : Frame) (xs : List Value) → fs ≡ gs ++ f ∷ [] → put_dot o (frame_on names (stack_of names gs xs) f) ≡ bad o bad_dot → bad o bad_dot ≡ put_dot o (stack_of names fs xs)
+  pub dot_bad : (o : ℕ) (fs gs : List Frame) (f : Frame) (xs : List Value) → fs ≡ gs ++ f ∷ [] → put_dot o (frame_on names (stack_of names gs xs) f) ≡ bad o BadDot → bad o BadDot ≡ put_dot o (stack_of names fs xs)
   dot_bad o fs gs f xs e h = sym (ap (put_dot o) (on_last fs gs f xs e) ∙ h)
 
-  pub dot_top : (o : ℕ) (fs : List Frame) (xs : List Value) → fs ≡ [] → bad o bad_dot ≡ put_dot o (stack_of names fs xs)
+  pub dot_top : (o : ℕ) (fs : List Frame) (xs : List Value) → fs ≡ [] → bad o BadDot ≡ put_dot o (stack_of names fs xs)
   dot_top o fs xs e = rw e refl
 
-  pub dot_empty : (o at n : ℕ) (k : Stack) (ys : List Value) → n ≡ length ys → true ≡ (n == 0) → put_dot o (in_list at (backward names none ys) k) ≡ bad o bad_dot
+  pub dot_empty : (o at n : ℕ) (k : Stack) (ys : List Value) → n ≡ length ys → true ≡ (n == 0) → put_dot o (in_list at (backward names none ys) k) ≡ bad o BadDot
   dot_empty o at n k [] e h = refl
   dot_empty o at n k (y ∷ ys) e h = let z : (n == 0) ≡ false = ne_eqb _ _ (λ i. omega (arith, e, i)) in absurd (cc)
 
@@ -130,15 +130,15 @@ module _ (names : List (List ℕ)) where
       let within : length gs - 1 < length gs = slice_get_within gs (length gs - 1) g (sym e) in
       sym (ap (λ z. is_past (stack_of names z xs)) (sym all) ∙ past_on gs (top (backward names none xs)) g (length gs - 1) (sym e) (omega (arith, within)) ∙ ap (λ x. is_past (frame_on names (top none) x)) same)
 
-form_in_is : (o : ℕ) (k : Stack) (s : State) → form_in o k s ≡ (if is_past k then bad o bad_dot else s)
+form_in_is : (o : ℕ) (k : Stack) (s : State) → form_in o k s ≡ (if is_past k then bad o BadDot else s)
 form_in_is o (top gs) s = refl
 form_in_is o (in_list at gs k) s = refl
 form_in_is o (in_tail at gs k) s = refl
 form_in_is o (past_tail at gs f k) s = refl
 form_in_is o (in_quote at k) s = refl
 
-pub past_bad : (o : ℕ) (k : Stack) (s : State) → true ≡ is_past k → bad o bad_dot ≡ form_in o k s
-past_bad o k s e = sym (form_in_is o k s ∙ ap (λ b. if b then bad o bad_dot else s) (sym e))
+pub past_bad : (o : ℕ) (k : Stack) (s : State) → true ≡ is_past k → bad o BadDot ≡ form_in o k s
+past_bad o k s e = sym (form_in_is o k s ∙ ap (λ b. if b then bad o BadDot else s) (sym e))
 
 pub open_form : (o : ℕ) (k : Stack) (s : State) → false ≡ is_past k → s ≡ form_in o k s
-open_form o k s e = sym (form_in_is o k s ∙ ap (λ b. if b then bad o bad_dot else s) (sym e))
+open_form o k s e = sym (form_in_is o k s ∙ ap (λ b. if b then bad o BadDot else s) (sym e))

@@ -1,5 +1,4 @@
 pub mod ByteClass
-pub mod Fault
 pub mod Numbering
 pub mod Scan
 pub mod TextFault

@@ -3,7 +3,8 @@ use Rattle.std.specs.Prelude.{ℕ, ◌+◌, ◌-◌, ◌*◌, ◌==◌, ltb, leb
 use Rattle.ql_forms.specs.Bytes.{Class, blank, letter, digit, plus, minus, opening, closing, mark, semicolon, dot, other, class}
 use Rattle.ql_forms.specs.Spelled.{Form, symbol, integer, list_form, quote_form, Forms, none, more, plain, with_tail, Atom, atom}
 use Rattle.ql_forms.specs.Spells.{most, signed}
-use Rattle.ql_read.specs.TextFault.{Kind, bad_byte, stray_close, bad_dot, bad_number, long_name, too_deep}
+use Rattle.ql_base.specs.declared.refusal.FaultKind.{FaultKind}
+use Rattle.ql_base.specs.declared.refusal.FaultKind.TheVariants.{BadByte, StrayClose, BadDot, BadNumber, LongName, TooDeep}
 
 pub data Token : Type 0 where
   of_symbol : (letters : List ℕ) → Token
@@ -36,9 +37,9 @@ token_atom (of_number negative v) = integer (signed negative v)
 abbrev pub token_form : ℕ → Token → Form
 token_form at w = atom at (token_atom w)
 
-abbrev pub token_kind : Token → Kind
-token_kind (of_number negative v) = bad_number
-token_kind _ = long_name
+abbrev pub token_kind : Token → FaultKind
+token_kind (of_number negative v) = BadNumber
+token_kind _ = LongName
 
 -- what is open, the innermost first: the forms so far are in reverse
 pub data Stack : Type 0 where
@@ -73,22 +74,22 @@ pub data State : Type 0 where
   in_comment : (o : ℕ) → Stack → State
   in_atom : (o at : ℕ) → Token → Stack → State
   after_dot : (o : ℕ) → Stack → State
-  bad : (at : ℕ) → Kind → State
+  bad : (at : ℕ) → FaultKind → State
 
 abbrev pub close : ℕ → Stack → State
-close o (top fs) = bad o stray_close
+close o (top fs) = bad o StrayClose
 close o (in_list at fs k) = between (o + 1) (push (list_form at (onto fs none) plain) k)
-close o (in_tail at fs k) = bad o bad_dot
+close o (in_tail at fs k) = bad o BadDot
 close o (past_tail at fs f k) = between (o + 1) (push (list_form at (onto fs none) (with_tail f)) k)
-close o (in_quote at k) = bad o stray_close
+close o (in_quote at k) = bad o StrayClose
 
 abbrev pub put_dot : ℕ → Stack → State
 put_dot o (in_list at (more f fs) k) = after_dot (o + 1) (in_tail at (more f fs) k)
-put_dot o k = bad o bad_dot
+put_dot o k = bad o BadDot
 
 -- a form begins, where one may
 abbrev pub form_in : ℕ → Stack → State → State
-form_in o (past_tail at fs f k) s = bad o bad_dot
+form_in o (past_tail at fs f k) s = bad o BadDot
 form_in o k s = s
 
 abbrev pub step_between : ℕ → Stack → ℕ → Class → State
@@ -97,12 +98,12 @@ step_between o k b letter = form_in o k (in_atom (o + 1) o (first b letter) k)
 step_between o k b digit = form_in o k (in_atom (o + 1) o (first b digit) k)
 step_between o k b plus = form_in o k (in_atom (o + 1) o (first b plus) k)
 step_between o k b minus = form_in o k (in_atom (o + 1) o (first b minus) k)
-step_between o k b opening = form_in o k (if ltb (depth k) 200 then between (o + 1) (in_list o none k) else bad o too_deep)
+step_between o k b opening = form_in o k (if ltb (depth k) 200 then between (o + 1) (in_list o none k) else bad o TooDeep)
 step_between o k b closing = close o k
-step_between o k b mark = form_in o k (if ltb (depth k) 200 then between (o + 1) (in_quote o k) else bad o too_deep)
+step_between o k b mark = form_in o k (if ltb (depth k) 200 then between (o + 1) (in_quote o k) else bad o TooDeep)
 step_between o k b semicolon = in_comment (o + 1) k
 step_between o k b dot = put_dot o k
-step_between o k b other = bad o bad_byte
+step_between o k b other = bad o BadByte
 
 abbrev pub atom_or_bad : ℕ → ℕ → Token → Stack → Option Token → State
 atom_or_bad o at w k (Some v) = in_atom (o + 1) at v k
@@ -113,7 +114,7 @@ step_atom o at w k b letter = atom_or_bad o at w k (next w b letter)
 step_atom o at w k b digit = atom_or_bad o at w k (next w b digit)
 step_atom o at w k b plus = atom_or_bad o at w k (next w b plus)
 step_atom o at w k b minus = atom_or_bad o at w k (next w b minus)
-step_atom o at w k b dot = bad o bad_dot
+step_atom o at w k b dot = bad o BadDot
 step_atom o at w k b c = step_between o (push (token_form at w) k) b c
 
 abbrev pub step_dot : ℕ → Stack → ℕ → Class → State
@@ -121,8 +122,8 @@ step_dot o k b blank = step_between o k b blank
 step_dot o k b opening = step_between o k b opening
 step_dot o k b mark = step_between o k b mark
 step_dot o k b semicolon = step_between o k b semicolon
-step_dot o k b other = bad o bad_byte
-step_dot o k b c = bad o bad_dot
+step_dot o k b other = bad o BadByte
+step_dot o k b c = bad o BadDot
 
 abbrev pub step : State → ℕ → State
 step (between o k) b = step_between o k b (class b)
@@ -150,7 +151,7 @@ finish (in_atom o at w k) = whole (push (token_form at w) k)
 finish (after_dot o k) = None
 finish (bad at kind) = None
 
-abbrev pub fault_of : State → Option (ℕ × Kind)
+abbrev pub fault_of : State → Option (ℕ × FaultKind)
 fault_of (bad at kind) = Some (at, kind)
 fault_of _ = None
 

@@ -1,5 +1,8 @@
 -- Where a text is at fault, and why. It speaks of what the text and its continuations spell, and of no reader.
 use Rattle.std.specs.Prelude.{◌≡◌, ◌⊎◌, ◌≤◌, ◌<◌, ℕ, ◌+◌, ◌==◌, Bool, true, false, not, if◌then◌else◌, List, [], ◌∷◌, ◌++◌, length, take}
+use Rattle.ql_base.specs.Refusal.{number_of}
+use Rattle.ql_base.specs.declared.refusal.FaultKind.{FaultKind}
+use Rattle.ql_base.specs.declared.refusal.FaultKind.TheVariants.{BadByte, StrayClose, BadDot, BadNumber, LongName, TooDeep, TooLong, Unfinished}
 use Rattle.ql_forms.specs.Bytes.{Class, blank, opening, closing, mark, semicolon, dot, other, class, is_atom}
 use Rattle.ql_forms.specs.Spelled.{Forms}
 use Rattle.ql_forms.specs.Form as numbered
@@ -16,31 +19,13 @@ pub record FaultsAt (b : List ℕ) (n : ℕ) : Type 0 where
   pub before : (m : ℕ) → m < n → CanGoOn (take (m + 1) b)
   pub none_goes_on : CanGoOn (take (n + 1) b) → Prim.⊥
 
--- what is wrong with a byte
-pub data Kind : Type 0 where
-  bad_byte : Kind
-  stray_close : Kind
-  bad_dot : Kind
-  bad_number : Kind
-  long_name : Kind
-  too_deep : Kind
-
--- the number that answers give for it
-abbrev pub number_of : Kind → ℕ
-number_of bad_byte = 1
-number_of stray_close = 2
-number_of bad_dot = 3
-number_of bad_number = 4
-number_of long_name = 5
-number_of too_deep = 6
-
 -- the number for a text of too many bytes
 abbrev pub too_long : ℕ
-too_long = 7
+too_long = number_of TooLong
 
 -- the number for a text that ends too early
 abbrev pub unfinished : ℕ
-unfinished = 8
+unfinished = number_of Unfinished
 
 -- the atom bytes at the end of a text that goes on after these
 abbrev pub atom_at_end : List ℕ → List ℕ → List ℕ
@@ -71,27 +56,27 @@ abbrev pub FormMayFollow : List ℕ → Type 0
 FormMayFollow p = CanGoOn (p ++ 32 ∷ 97 ∷ [])
 
 -- at an atom byte: no form may stand here, or what stands here grows beyond a number or a name
-abbrev pub atom_kind : List ℕ → Kind
-atom_kind [] = bad_dot
-atom_kind (b ∷ w) = if is_numeric (b ∷ w) then bad_number else long_name
+abbrev pub atom_kind : List ℕ → FaultKind
+atom_kind [] = BadDot
+atom_kind (b ∷ w) = if is_numeric (b ∷ w) then BadNumber else LongName
 
 -- at an opening parenthesis or a quote mark
-abbrev pub OpeningKind : List ℕ → Kind → Type 0
-OpeningKind p kind = ((kind ≡ too_deep) × FormMayFollow p) ⊎ ((kind ≡ bad_dot) × (FormMayFollow p → Prim.⊥))
+abbrev pub OpeningKind : List ℕ → FaultKind → Type 0
+OpeningKind p kind = ((kind ≡ TooDeep) × FormMayFollow p) ⊎ ((kind ≡ BadDot) × (FormMayFollow p → Prim.⊥))
 
 -- the kind of a fault at a byte of this class after the bytes p
-abbrev pub HasKind : List ℕ → Class → Kind → Type 0
+abbrev pub HasKind : List ℕ → Class → FaultKind → Type 0
 HasKind p blank kind = Prim.⊥
 HasKind p semicolon kind = Prim.⊥
 HasKind p opening kind = OpeningKind p kind
 HasKind p mark kind = OpeningKind p kind
-HasKind p closing kind = kind ≡ (if is_dot (class (last_byte false 0 p)) then bad_dot else stray_close)
-HasKind p dot kind = kind ≡ bad_dot
-HasKind p other kind = kind ≡ bad_byte
+HasKind p closing kind = kind ≡ (if is_dot (class (last_byte false 0 p)) then BadDot else StrayClose)
+HasKind p dot kind = kind ≡ BadDot
+HasKind p other kind = kind ≡ BadByte
 HasKind p c kind = kind ≡ atom_kind (atom_at_end [] p)
 
 -- the text's first byte at fault stands at n
-pub record ByteFault (b : List ℕ) (n : ℕ) (kind : Kind) : Type 0 where
+pub record ByteFault (b : List ℕ) (n : ℕ) (kind : FaultKind) : Type 0 where
   pub least : FaultsAt b n
   pub front : List ℕ
   pub byte : ℕ
@@ -111,7 +96,7 @@ NoneBelow b = (n : ℕ) → n < limit → FaultsAt b n → Prim.⊥
 -- The fault of a text: the number of its kind, and its offset. The first byte at fault goes before the length,
 -- and the length before an early end.
 pub data TextFault : List ℕ → ℕ → ℕ → Type 0 where
-  by_byte : {b : List ℕ} {n : ℕ} {kind : Kind} → n < limit → ByteFault b n kind → TextFault b (number_of kind) n
+  by_byte : {b : List ℕ} {n : ℕ} {kind : FaultKind} → n < limit → ByteFault b n kind → TextFault b (number_of kind) n
   by_length : {b : List ℕ} → NoneBelow b → limit < length b → TextFault b too_long limit
   by_end : {b : List ℕ} → NoneBelow b → length b ≤ limit → ((fs : Forms) → Spells b fs → Prim.⊥) → TextFault b unfinished (length b)
 
@@ -131,6 +116,7 @@ pub record IsRefused (b : List ℕ) (kind at : ℕ) : Type 0 where
   pub only : (rest : List ℕ) → MayFollow kind rest → (k n : ℕ) → TextFault (b ++ rest) k n → (k ≡ kind) × (n ≡ at)
   pub place : at ≤ length b
   pub within : kind < unfinished → at < length b
+  pub late : unfinished ≤ kind → at ≡ length b
 
 -- The text spells these forms, by number among these names, and no others; it is short enough and has no fault.
 pub record IsRead (b : List ℕ) (forms : numbered.Forms) (names : List (List ℕ)) : Type 0 where

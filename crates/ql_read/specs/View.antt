@@ -1,12 +1,11 @@
 -- The stack and the state that values stand for.
 use Rattle.ql_forms.specs.View.{spelling_of, spellings_of}
-use Rattle.ql_read.specs.Fault.{fault_told}
 use Rattle.std.specs.Prelude.{◌+◌, ltb, if◌then◌else◌, ℕ, Bool, true, false, List, [], ◌∷◌, Option, Some, None}
 use Rattle.ql_forms.specs.Bytes.{Class, letter, digit, plus, minus, opening, mark}
 use Rattle.ql_forms.specs.Spelled.{Forms, none, more}
 use Rattle.ql_forms.specs.declared.form.Form.{Form as Value}
 use Rattle.ql_read.specs.declared.ending.Whole.{Whole}
-use Rattle.ql_read.specs.TextFault.{bad_byte, too_deep}
+use Rattle.ql_base.specs.declared.refusal.FaultKind.TheVariants.{BadByte, TooDeep}
 use Rattle.ql_read.specs.Scan.{first, of_symbol, of_sign, of_number, Stack, top, in_list, in_tail, past_tail, in_quote, depth, State, between, in_comment, in_atom, after_dot, bad}
 use Rattle.ql_read.specs.declared.nesting.Frame.{Frame}
 use Rattle.ql_read.specs.declared.nesting.Frame.TheVariants.{InList, InTail, PastTail, InQuote}
@@ -43,10 +42,10 @@ state_of (InSymbol at letters) o k = in_atom o at (of_symbol letters.items) k
 state_of (InSign at negative byte) o k = in_atom o at (of_sign negative byte) k
 state_of (InNumber at number) o k = in_atom o at (of_number number.negative number.value) k
 state_of AfterDot o k = after_dot o k
-state_of (Bad at fault) o k = bad at (fault_told fault)
+state_of (Bad at fault) o k = bad at fault
 
 abbrev pub deeper_at : List (List ℕ) → ℕ → Frame → Stack → State
-deeper_at names o f k = if ltb (depth k) 200 then between (o + 1) (frame_on names k f) else bad o too_deep
+deeper_at names o f k = if ltb (depth k) 200 then between (o + 1) (frame_on names k f) else bad o TooDeep
 
 abbrev pub is_past : Stack → Bool
 is_past (past_tail at fs f k) = true
@@ -58,9 +57,9 @@ form_from o k b letter = in_atom (o + 1) o (first b letter) k
 form_from o k b digit = in_atom (o + 1) o (first b digit) k
 form_from o k b plus = in_atom (o + 1) o (first b plus) k
 form_from o k b minus = in_atom (o + 1) o (first b minus) k
-form_from o k b opening = if ltb (depth k) 200 then between (o + 1) (in_list o none k) else bad o too_deep
-form_from o k b mark = if ltb (depth k) 200 then between (o + 1) (in_quote o k) else bad o too_deep
-form_from o k b c = bad o bad_byte
+form_from o k b opening = if ltb (depth k) 200 then between (o + 1) (in_list o none k) else bad o TooDeep
+form_from o k b mark = if ltb (depth k) 200 then between (o + 1) (in_quote o k) else bad o TooDeep
+form_from o k b c = bad o BadByte
 
 -- the forms of a text that may end here
 abbrev pub text_told : List (List ℕ) → Option Whole → Option Forms

@@ -9,9 +9,10 @@ ghost use Rattle.ql_read.specs.Scan.{top, push, close, put_dot};
 ghost use Rattle.ql_read.specs.View.{nested, state_of, deeper_at, is_past};
 
 use crate::lists::{dotted_list, proper_list, quoted};
-use crate::token::{Fault, Token};
+use crate::token::Token;
 use ql_base::names::Names;
 use ql_base::numbers::Offset;
+use ql_base::refusal::FaultKind;
 use ql_forms::form::{Atom, Form};
 use sqlite_items::Boxed;
 use std::alloc::{AllocError, Global};
@@ -143,15 +144,15 @@ impl Nesting {
             }
             Some(Frame::InTail { .. }) => Ok(Token::Bad {
                 at,
-                fault: Fault::BadDot,
+                fault: FaultKind::BadDot,
             }),
             Some(Frame::InQuote { .. }) => Ok(Token::Bad {
                 at,
-                fault: Fault::StrayClose,
+                fault: FaultKind::StrayClose,
             }),
             None => Ok(Token::Bad {
                 at,
-                fault: Fault::StrayClose,
+                fault: FaultKind::StrayClose,
             }),
         }
     }
@@ -168,7 +169,7 @@ impl Nesting {
         } else {
             Ok(Token::Bad {
                 at,
-                fault: Fault::TooDeep,
+                fault: FaultKind::TooDeep,
             })
         }
     }
@@ -183,7 +184,7 @@ impl Nesting {
                 if items.is_empty() {
                     Ok(Token::Bad {
                         at,
-                        fault: Fault::BadDot,
+                        fault: FaultKind::BadDot,
                     })
                 } else {
                     self.frames.push(Frame::InTail { at: from, items })?;
@@ -192,19 +193,19 @@ impl Nesting {
             }
             Some(Frame::PastTail { .. }) => Ok(Token::Bad {
                 at,
-                fault: Fault::BadDot,
+                fault: FaultKind::BadDot,
             }),
             Some(Frame::InTail { .. }) => Ok(Token::Bad {
                 at,
-                fault: Fault::BadDot,
+                fault: FaultKind::BadDot,
             }),
             Some(Frame::InQuote { .. }) => Ok(Token::Bad {
                 at,
-                fault: Fault::BadDot,
+                fault: FaultKind::BadDot,
             }),
             None => Ok(Token::Bad {
                 at,
-                fault: Fault::BadDot,
+                fault: FaultKind::BadDot,
             }),
         }
     }

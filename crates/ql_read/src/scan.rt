@@ -11,7 +11,8 @@ ghost use Rattle.ql_read.specs.View.{nested, state_of, form_from};
 use crate::byte_class::{ByteClass, FormStart, class_of};
 use crate::nesting::{Frame, Nesting};
 use crate::number::Number;
-use crate::token::{Fault, Token};
+use crate::token::Token;
+use ql_base::refusal::FaultKind;
 use std::alloc::{AllocError, Global};
 
 /// How many bytes a name has at most.
@@ -57,7 +58,7 @@ fn begin(nesting: &mut Nesting, at: u64, b: u8) -> Result<Token, AllocError>
         ByteClass::Semicolon => Ok(Token::InComment),
         ByteClass::Other => Ok(Token::Bad {
             at,
-            fault: Fault::BadByte,
+            fault: FaultKind::BadByte,
         }),
         ByteClass::Dot => nesting.put_dot(at),
         ByteClass::Closing => nesting.close(at),
@@ -76,7 +77,7 @@ fn form_or_bad(nesting: &mut Nesting, at: u64, b: u8, start: FormStart) -> Resul
     if nesting.is_past_tail() {
         Ok(Token::Bad {
             at,
-            fault: Fault::BadDot,
+            fault: FaultKind::BadDot,
         })
     } else {
         start_form(nesting, at, b, start)
@@ -137,7 +138,7 @@ fn after_symbol(
         ByteClass::Start(FormStart::Minus) => longer(at, from, letters, b),
         ByteClass::Dot => Ok(Token::Bad {
             at,
-            fault: Fault::BadDot,
+            fault: FaultKind::BadDot,
         }),
         _ => {
             nesting.put_symbol(from, &letters)?;
@@ -160,7 +161,7 @@ fn longer(at: u64, from: u64, letters: Vec<u8>, b: u8) -> Result<Token, AllocErr
     } else {
         Ok(Token::Bad {
             at,
-            fault: Fault::LongName,
+            fault: FaultKind::LongName,
         })
     }
 }
@@ -188,7 +189,7 @@ fn after_sign(
         ByteClass::Start(FormStart::Minus) => two_letters(nesting.alloc, from, byte, b),
         ByteClass::Dot => Ok(Token::Bad {
             at,
-            fault: Fault::BadDot,
+            fault: FaultKind::BadDot,
         }),
         _ => {
             nesting.put_symbol(from, &[byte])?;
@@ -224,18 +225,18 @@ fn after_number(
             Some(number) => Ok(Token::InNumber { at: from, number }),
             None => Ok(Token::Bad {
                 at,
-                fault: Fault::BadNumber,
+                fault: FaultKind::BadNumber,
             }),
         },
         ByteClass::Start(FormStart::Letter | FormStart::Plus | FormStart::Minus) => Ok(
             Token::Bad {
                 at,
-                fault: Fault::BadNumber,
+                fault: FaultKind::BadNumber,
             },
         ),
         ByteClass::Dot => Ok(Token::Bad {
             at,
-            fault: Fault::BadDot,
+            fault: FaultKind::BadDot,
         }),
         _ => {
             nesting.put(number.form(from))?;
@@ -256,11 +257,11 @@ fn after_dot(nesting: &mut Nesting, at: u64, b: u8) -> Result<Token, AllocError>
         | ByteClass::Start(FormStart::Opening | FormStart::Mark) => begin(nesting, at, b),
         ByteClass::Other => Ok(Token::Bad {
             at,
-            fault: Fault::BadByte,
+            fault: FaultKind::BadByte,
         }),
         _ => Ok(Token::Bad {
             at,
-            fault: Fault::BadDot,
+            fault: FaultKind::BadDot,
         }),
     }
 }

@@ -1,20 +1,19 @@
 -- What an answer says of the bytes.
 use Rattle.std.proofs.Common.{◌≡◌, ◌⊎◌, ◌≤◌, ◌++◌, ℕ, List, [], Option, Some, None, refl, sym, ap, ◌∙◌, subst, append-nil, inl, inr, arith}
-use Rattle.std.specs.Prelude.{Ok, Err, Result}
+use Rattle.std.specs.Prelude.{Err}
 use Rattle.ql_forms.specs.Form.{Forms}
 use Rattle.ql_forms.specs.View.{forms_of}
 use Rattle.ql_forms.specs.declared.text.Text.{Text}
 use Rattle.ql_expand.specs.Core.{Program}
 use Rattle.ql_read.specs.TextFault.{MayFollow, IsRead}
 use Rattle.ql_top.specs.declared.world.Stop as stop
-use Rattle.ql_top.specs.declared.world.Stop.TheVariants as stops
 use Rattle.ql_top.specs.Acts.{HasTexts, Gives, AnswersSome}
 use Rattle.ql_top.specs.Reading.{Takes, IsAtEnd, ReadsAll, IsFaulty, StopsReading}
-use Rattle.ql_top.specs.Status.{status_of}
-use Rattle.ql_top.specs.Top.{IsText, Makes, Unfit, Refusal, of_text, of_forms, IsRefused, IsSource, Writes, of_run, of_show, of_check, Written, IsDone, Answers, AnswersTaken, IsSilent, StopsOrFails}
+use Rattle.ql_top.specs.Top.{IsText, Unfit, Refusal, of_text, of_forms, IsRefused, IsSource, Writes, of_run, of_show, of_check, of_list, Written, IsDone, Answers, AnswersTaken, IsSilent}
 use Rattle.ql_top.specs.Unbuilt.{first_unbuilt}
 use Rattle.ql_top.specs.declared.top.Texts.{Texts}
 use Rattle.ql_top.specs.declared.words.Command.{Command}
+use Rattle.ql_top.specs.declared.words.Command.TheVariants as commands
 use Rattle.ql_top.specs.declared.words.Command.TheVariants.{Run, Show, Check}
 use Rattle.ql_top.specs.declared.status.Status.{Status}
 use Rattle.ql_top.specs.declared.status.Status.TheVariants.{Done, Refused, Words, Fault, Budget, Deadlock, Limit, NoMemory, ReadFault, WriteFault}
@@ -85,6 +84,7 @@ built : (command : Command) (names : List (List ℕ)) (forms : Forms) (p : Progr
 built Run names forms p stop output lines (of_run {core = core} e told) is_run = program_built p core e
 built Show names forms p stop output lines of_show is_run = absurd (cc)
 built Check names forms p stop output lines of_check is_run = absurd (cc)
+built commands.List names forms p stop output lines of_list is_run = absurd (cc)
 
 done_answer : (command : Command) (status : Status) (b : List ℕ) (left o o' j j' : Option (List ℕ)) → (IsSilent status → Prim.⊥)
     → IsDone command status b left o o' j j' → Answers command status b left o o' j j'

@@ -1,14 +1,17 @@
--- What is told of the code of small programs, and which forms can't be run yet, computed.
-use Rattle.std.proofs.Common.{◌≡◌, ℕ, [], ◌∷◌, Some, None, refl}
+-- What is told of the code of small programs, which forms can't be run yet, and the listing of a code, computed.
+use Rattle.std.proofs.Common.{◌≡◌, ℕ, List, [], ◌∷◌, ◌++◌, Some, None, refl}
 use Rattle.std.specs.Prelude.{pos, codes, replicate}
 use Rattle.std.specs.Fmt.{digits}
 use Rattle.ql_base.specs.Limits.{usual}
+use Rattle.ql_base.specs.Names.{reserved}
 use Rattle.ql_base.specs.Reserved.{number}
 use Rattle.ql_base.specs.declared.fault.RunFault.TheVariants.{Overflow}
 use Rattle.ql_base.specs.declared.reserved.Reserved.TheVariants.{Plus}
 use Rattle.ql_forms.specs.Form.{integer, nil, atom}
 use Rattle.ql_expand.specs.Core as expanded
-use Rattle.ql_expand.specs.Core.{core, no_cores, and_core, primitive, conditional, function, program}
+use Rattle.ql_expand.specs.Core.{named, binder, core, variable, call, no_cores, and_core, primitive, conditional, function, Program, program}
+use Rattle.ql_code.specs.Listing.{listing}
+use Rattle.ql_compile.specs.Compile.{compiled}
 use Rattle.ql_top.specs.Runnable.{Core, constant, sum, print}
 use Rattle.ql_top.specs.Meaning.{program_told}
 use Rattle.ql_top.specs.World.{pid}
@@ -87,3 +90,19 @@ inner_forms_count = refl
 -- (print nil)(defun f () nil)
 the_least_is_first : first_unbuilt (program (function 11 46 18 [] (nil_at 23) ∷ []) [] (and_core (core 0 (expanded.print (nil_at 7))) no_cores)) ≡ Some 7
 the_least_is_first = refl
+
+-- (defun twice (n) (+ n n)) (print (twice 3))
+abbrev twice : Program
+twice =
+    program
+    (function 0 46 7 (binder 14 (named 47) ∷ []) (core 17 (primitive (number Plus) (and_core (core 20 (variable (named 47))) (and_core (core 22 (variable (named 47))) no_cores)))) ∷ [])
+    []
+    (and_core (core 26 (expanded.print (core 33 (call 46 34 (and_core (core 40 (expanded.constant (atom 40 (integer (pos 3))))) no_cores))))) no_cores)
+
+abbrev twice_names : List (List ℕ)
+twice_names = reserved ++ codes "twice" ∷ (codes "n" ∷ [])
+
+twice_is_listed : listing twice_names (compiled twice)
+    ≡ codes "0 lit 3 @40\n1 call 5 1 0 @33\n2 print @26\n3 drop @26\n4 end @0\n5 local 0 @20\n6 local 0 @22\n7 prim + @17\n8 return @0\n"
+unfolding digits
+twice_is_listed = refl

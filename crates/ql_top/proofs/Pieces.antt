@@ -1,7 +1,7 @@
 -- What one more piece does to the bytes that were read, or written.
 use Rattle.std.proofs.Common.{◌≡◌, ℕ, ◌+◌, ◌<◌, ◌≤◌, ◌++◌, List, [], length, Option, Some, None, refl, sym, ap, ◌∙◌, subst, arith, append_assoc, append-nil, length-append}
 use Rattle.ql_base.specs.Outside.{Reads, Appends, AppendsFront}
-use Rattle.ql_read.specs.TextFault.{Kind, bad_byte, stray_close, bad_dot, bad_number, long_name, too_deep, number_of, TextFault, by_byte, by_length, by_end, IsRefused, NoFaultIn, unfinished}
+use Rattle.ql_read.specs.TextFault.{IsRefused, unfinished}
 use Rattle.ql_read.specs.Told.{HasTaken}
 use Rattle.ql_read.specs.declared.reader.Reader.{Reader}
 use Rattle.ql_top.specs.Reading.{Takes, IsAtEnd, HasRead, IsFaulty}
@@ -51,29 +51,14 @@ refused_piece reader piece start left next room kind at h r bad near few =
       at_end = λ e. absurd (omega (arith, low, e));
     }
 
-none_is_last : (k : Kind) → number_of k ≡ 8 → Prim.⊥
-none_is_last bad_byte e = cc
-none_is_last stray_close e = cc
-none_is_last bad_dot e = cc
-none_is_last bad_number e = cc
-none_is_last long_name e = cc
-none_is_last too_deep e = cc
-
--- a text that ends too early has its fault at its end
-ended_late : (b : List ℕ) (kind at : ℕ) → kind ≡ 8 → TextFault b kind at → length b ≤ at
-ended_late b kind at e (by_byte {kind = k} low f) = absurd (none_is_last k e)
-ended_late b kind at e (by_length h long) = absurd (cc)
-ended_late b kind at e (by_end h short none) = omega arith
-
 pub unfinished_text : (reader : Reader) (start next : Option (List ℕ)) (kind at : ℕ) (h : HasRead reader start next) → IsAtEnd next
     → (kind ≡ 8) × IsRefused h.taken kind at → IsFaulty kind at start next
 unfinished_text reader start next kind at h end (last, said) =
-    let fault : TextFault h.taken kind at = subst (λ t. TextFault t kind at) (append-nil h.taken) (said.fault [] (λ k. refl)) in
     record {
       taken = h.taken;
       takes = h.takes;
       refused = said;
-      near = let p : length h.taken ≤ at = ended_late h.taken kind at last fault in omega (arith, p);
+      near = let p : at ≡ length h.taken = said.late (omega (arith, last)) in omega (arith, p);
       at_end = λ e. end;
     }
 

@@ -1,6 +1,7 @@
 -- No bytes have two refusals by one command.
-use Rattle.std.proofs.Common.{◌≡◌, ◌≤◌, ℕ, List, Option, Some, None, refl, sym, ap, ◌∙◌, subst, arith}
-use Rattle.std.specs.Prelude.{option_map}
+use Rattle.std.proofs.Common.{◌≡◌, ◌<◌, ◌≤◌, ℕ, List, Option, Some, None, length, refl, sym, ap, ◌∙◌, subst, arith}
+use Rattle.std.specs.Prelude.{option_map, slice_get}
+use Rattle.std.proofs.lemmas.Option.{slice_get_within}
 use Rattle.ql_base.specs.Names.{AreDistinct, reserved, with_names}
 use Rattle.ql_base.specs.Refusal.{least, told}
 use Rattle.ql_forms.specs.Form.{Forms}
@@ -12,9 +13,12 @@ use Rattle.ql_expand.specs.Core.{Program}
 use Rattle.ql_expand.specs.ExpandFault.{expand_fault}
 use Rattle.ql_expand.specs.Expands.{ExpandsTo}
 use Rattle.ql_scope.specs.Scope.{InScope, scope_fault}
+use Rattle.ql_code.specs.Code.{Instruction, Code}
+use Rattle.ql_compile.specs.Compile.{compiled}
+use Rattle.ql_compile.specs.Laws.{IsTooLong}
 use Rattle.ql_top.specs.Runnable.{Core, program_of}
 use Rattle.ql_read.specs.TextFault.{TextFault}
-use Rattle.ql_top.specs.Top.{IsText, Makes, Unfit, by_forms, by_scope, by_kind, Refusal, of_text, of_forms, IsSource, IsProgram}
+use Rattle.ql_top.specs.Top.{IsText, Makes, Unfit, by_forms, by_scope, by_code, by_kind, Refusal, of_text, of_forms, IsSource, IsProgram}
 use Rattle.ql_top.specs.Unbuilt.{first_unbuilt}
 use Rattle.ql_top.specs.declared.words.Command.{Command}
 use Rattle.ql_top.specs.declared.words.Command.TheVariants.{Run}
@@ -35,6 +39,18 @@ none_or_some o a e f = let no = sym e ∙ f in cc
 no_scope_fault : (p : Program) → InScope p → scope_fault p ≡ None
 no_scope_fault p h = ap (λ fs. told (least fs)) h
 
+-- the offset of the 65,536th instruction
+abbrev last_place : Code → Option ℕ
+last_place code = option_map (λ (i : Instruction). i.at) (slice_get code.instructions 65535)
+
+too_many : (is : List Instruction) (o : Option Instruction) (at : ℕ) → slice_get is 65535 ≡ o → option_map (λ (i : Instruction). i.at) o ≡ Some at
+    → length is ≤ 65535 → Prim.⊥
+too_many is None at e h short = none_or_some _ _ refl h
+too_many is (Some i) at e h short = let beyond : 65535 < length is = slice_get_within is 65535 i e in absurd (omega (arith, beyond, short))
+
+not_too_long : (code : Code) (at : ℕ) → length code.instructions ≤ 65535 → IsTooLong code at → Prim.⊥
+not_too_long code at short h = too_many code.instructions (slice_get code.instructions 65535) at refl h short
+
 -- What is wrong with forms has a kind beyond those of a text.
 pub kind_beyond : ((names : List (List ℕ)) (forms : Forms) (at kind : ℕ) → expand_fault names forms ≡ Some (at, kind) → (9 ≤ kind) × (kind ≤ 11))
     → ((p : Program) (at kind : ℕ) → scope_fault p ≡ Some (at, kind) → (12 ≤ kind) × (kind ≤ 18))
@@ -42,6 +58,7 @@ pub kind_beyond : ((names : List (List ℕ)) (forms : Forms) (at kind : ℕ) →
 kind_beyond form_kinds name_kinds command names forms kind at (by_forms e) = (form_kinds names forms at kind e).0
 kind_beyond form_kinds name_kinds command names forms kind at (by_scope p none x e) =
     let beyond : 12 ≤ kind = (name_kinds p at kind e).0 in omega (arith, beyond)
+kind_beyond form_kinds name_kinds command names forms kind at (by_code p none x s e) = omega arith
 kind_beyond form_kinds name_kinds command names forms kind at (by_kind m e) = omega arith
 
 module _ (one_reading : (b : List ℕ) (f g : spelled.Forms) → Spells b f → Spells b g → f ≡ g)
@@ -68,15 +85,27 @@ module _ (one_reading : (b : List ℕ) (f g : spelled.Forms) → Spells b f → 
       → (k ≡ kind) × (n ≡ at)
   one_unfit command names forms k n kind at (by_forms e) (by_forms f) = one_place (expand_fault names forms) n k at kind e f
   one_unfit command names forms k n kind at (by_forms e) (by_scope p none x f) = absurd (none_or_some _ _ none e)
+  one_unfit command names forms k n kind at (by_forms e) (by_code p none x s f) = absurd (none_or_some _ _ none e)
   one_unfit command names forms k n kind at (by_forms e) (by_kind m f) = absurd (none_or_some _ _ m.no_fault e)
   one_unfit command names forms k n kind at (by_scope p none x e) (by_forms f) = absurd (none_or_some _ _ none f)
   one_unfit command names forms k n kind at (by_scope p none x e) (by_scope q clean y f) =
       one_place (scope_fault p) n k at kind e (ap scope_fault (one_expansion forms p q x y) ∙ f)
+  one_unfit command names forms k n kind at (by_scope p none x e) (by_code q clean y s f) =
+      absurd (none_or_some _ _ (no_scope_fault q s) (ap scope_fault (one_expansion forms q p y x) ∙ e))
   one_unfit command names forms k n kind at (by_scope p none x e) (by_kind {program = q} m f) =
       absurd (none_or_some _ _ (no_scope_fault q m.in_scope) (ap scope_fault (one_expansion forms q p m.expands x) ∙ e))
+  one_unfit command names forms k n kind at (by_code p none x s e) (by_forms f) = absurd (none_or_some _ _ none f)
+  one_unfit command names forms k n kind at (by_code p none x s e) (by_scope q clean y f) =
+      absurd (none_or_some _ _ (no_scope_fault p s) (ap scope_fault (one_expansion forms p q x y) ∙ f))
+  one_unfit command names forms k n kind at (by_code p none x s e) (by_code q clean y t f) =
+      (refl, one_offset (last_place (compiled p)) n at e (ap (λ r. last_place (compiled r)) (one_expansion forms p q x y) ∙ f))
+  one_unfit command names forms k n kind at (by_code p none x s e) (by_kind {program = q} m f) =
+      absurd (not_too_long (compiled q) n m.short (ap (λ r. last_place (compiled r)) (one_expansion forms q p m.expands x) ∙ e))
   one_unfit command names forms k n kind at (by_kind m e) (by_forms f) = absurd (none_or_some _ _ m.no_fault f)
   one_unfit command names forms k n kind at (by_kind {program = p} m e) (by_scope q clean y f) =
       absurd (none_or_some _ _ (no_scope_fault p m.in_scope) (ap scope_fault (one_expansion forms p q m.expands y) ∙ f))
+  one_unfit command names forms k n kind at (by_kind {program = p} m e) (by_code q clean y s f) =
+      absurd (not_too_long (compiled p) at m.short (ap (λ r. last_place (compiled r)) (one_expansion forms p q m.expands y) ∙ f))
   one_unfit command names forms k n kind at (by_kind {program = p} m e) (by_kind {program = q} o f) =
       (refl, one_offset (first_unbuilt p) n at e (ap first_unbuilt (one_expansion forms p q m.expands o.expands) ∙ f))
 
@@ -93,6 +122,8 @@ module _ (one_reading : (b : List ℕ) (f g : spelled.Forms) → Spells b f → 
   not_unfit command names forms p m built kind at (by_forms e) = none_or_some _ _ m.no_fault e
   not_unfit command names forms p m built kind at (by_scope q none x e) =
       none_or_some _ _ (no_scope_fault p m.in_scope) (ap scope_fault (one_expansion forms p q m.expands x) ∙ e)
+  not_unfit command names forms p m built kind at (by_code q none x s e) =
+      not_too_long (compiled p) at m.short (ap (λ r. last_place (compiled r)) (one_expansion forms p q m.expands x) ∙ e)
   not_unfit command names forms p m built kind at (by_kind {program = q} o e) =
       none_or_some _ _ (built refl) (ap first_unbuilt (one_expansion forms p q m.expands o.expands) ∙ e)
 

@@ -1,11 +1,14 @@
 -- The texts of a command.
-use Rattle.std.proofs.Common.{◌≡◌, ℕ, List, [], Some, refl, sym, ap, ◌∙◌, subst}
+use Rattle.std.proofs.Common.{◌≡◌, ℕ, List, [], Some, refl, sym, ◌∙◌, subst}
 use Rattle.ql_base.specs.Limits.{usual}
 use Rattle.ql_base.specs.declared.limits.Limits.{Limits}
 use Rattle.ql_forms.specs.Form.{Forms}
 use Rattle.ql_forms.specs.FormText.{forms_text}
 use Rattle.ql_forms.specs.Numbered.{spelled_forms}
 use Rattle.ql_expand.specs.Core.{Program}
+use Rattle.ql_code.specs.Code.{Code}
+use Rattle.ql_code.specs.Listing.{listing}
+use Rattle.ql_compile.specs.Compile.{compiled}
 use Rattle.ql_top.specs.Runnable.{Core, program_of}
 use Rattle.ql_top.specs.Meaning.{program_told}
 use Rattle.ql_top.specs.World.{turns}
@@ -14,8 +17,9 @@ use Rattle.ql_top.specs.declared.world.Stop as stop
 use Rattle.ql_top.specs.declared.world.Stop.TheVariants as stops
 use Rattle.ql_top.specs.JournalText.{journal_text}
 use Rattle.ql_top.specs.Machine.{code_told}
-use Rattle.ql_top.specs.Top.{IsTold, Writes, of_run, of_show, of_check, approval}
+use Rattle.ql_top.specs.Top.{IsTold, Writes, of_run, of_show, of_check, of_list, approval}
 use Rattle.ql_top.specs.declared.code.Instruction.{Instruction}
+use Rattle.ql_top.specs.declared.words.Command.TheVariants as commands
 use Rattle.ql_top.specs.declared.words.Command.TheVariants.{Run, Show, Check}
 
 -- what was told under limits that are the usual ones, with the text of its journal
@@ -49,3 +53,7 @@ writes_show names forms p stop output text lines s o t l = rw (s, o, t, l) of_sh
 pub writes_check : (names : List (List ℕ)) (forms : Forms) (p : Program) (stop : stop.Stop) (output text lines : List ℕ) → stop ≡ stops.Done → output ≡ text
     → text ≡ approval → lines ≡ [] → Writes Check names forms p stop output lines
 writes_check names forms p stop output text lines s o t l = rw (s, o, t, l) of_check
+
+pub writes_list : (names : List (List ℕ)) (forms : Forms) (p : Program) (code : Code) (stop : stop.Stop) (output text lines : List ℕ) → stop ≡ stops.Done
+    → output ≡ text → text ≡ listing names code → code ≡ compiled p → lines ≡ [] → Writes commands.List names forms p stop output lines
+writes_list names forms p code stop output text lines s o t c l = rw (s, o, t, c, l) of_list

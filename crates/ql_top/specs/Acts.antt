@@ -3,7 +3,8 @@ use Rattle.std.specs.Prelude.{◌≡◌, ◌⊎◌, ◌++◌, ℕ, List, [], Opt
 use Rattle.ql_forms.specs.Form.{Forms}
 use Rattle.ql_expand.specs.Core as meant
 use Rattle.ql_expand.specs.ProgramView.{program_of}
-use Rattle.ql_scope.specs.declared.scoped.Scoped.{Scoped}
+use Rattle.ql_compile.specs.Compile.{compiled}
+use Rattle.ql_top.specs.declared.accept.Accepted.{Accepted}
 use Rattle.ql_top.specs.Reading.{Takes}
 use Rattle.ql_top.specs.Top.{Answers, Unfit, Makes, Writes}
 use Rattle.ql_top.specs.declared.top.Texts.{Texts}
@@ -11,9 +12,10 @@ use Rattle.ql_top.specs.declared.words.Command.{Command}
 use Rattle.ql_top.specs.declared.status.Status.{Status}
 use Rattle.ql_top.specs.declared.status.Status.TheVariants.{Refused, NoMemory}
 
--- the program that forms make, or what is wrong with them whatever the command, or want of memory
-abbrev pub Accepts : Result Scoped Status → List (List ℕ) → Forms → Type 0
-Accepts (Ok scoped) names forms = Makes names forms (program_of scoped.program)
+-- the program that forms make and its code, or what is wrong with them whatever the command, or want of memory
+abbrev pub Accepts : Result Accepted Status → List (List ℕ) → Forms → Type 0
+Accepts (Ok accepted) names forms =
+    Makes names forms (program_of accepted.scoped.program) × (accepted.code ≡ compiled (program_of accepted.scoped.program))
 Accepts (Err (Refused kind at)) names forms = (command : Command) → Unfit command names forms kind at
 Accepts (Err NoMemory) names forms = Prim.Unit {0}
 Accepts (Err status) names forms = Prim.⊥

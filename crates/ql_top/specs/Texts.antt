@@ -42,4 +42,5 @@ refusal_name kind =
     else (if kind == 15 then codes "wrongcount"
     else (if kind == 17 then codes "shadow"
     else (if kind == 18 then codes "toomany"
-    else codes "badshape")))))))))))))))
+    else (if kind == 19 then codes "codetoolong"
+    else codes "badshape"))))))))))))))))

@@ -11,6 +11,9 @@ use Rattle.ql_expand.specs.Core.{Program}
 use Rattle.ql_expand.specs.ExpandFault.{expand_fault}
 use Rattle.ql_expand.specs.Expands.{ExpandsTo}
 use Rattle.ql_scope.specs.Scope.{InScope, scope_fault}
+use Rattle.ql_code.specs.Listing.{listing}
+use Rattle.ql_compile.specs.Compile.{compiled}
+use Rattle.ql_compile.specs.Laws.{IsTooLong}
 use Rattle.ql_top.specs.Runnable.{Core, program_of}
 use Rattle.ql_top.specs.Meaning.{program_told}
 use Rattle.ql_top.specs.Run.{Story}
@@ -24,6 +27,7 @@ use Rattle.ql_top.specs.Reading.{Takes, IsCutShort}
 use Rattle.ql_top.specs.Status.{status_of}
 use Rattle.ql_top.specs.Unbuilt.{first_unbuilt}
 use Rattle.ql_top.specs.declared.words.Command.{Command}
+use Rattle.ql_top.specs.declared.words.Command.TheVariants as commands
 use Rattle.ql_top.specs.declared.words.Command.TheVariants.{Run, Show, Check}
 use Rattle.ql_top.specs.declared.status.Status.{Status}
 use Rattle.ql_top.specs.declared.status.Status.TheVariants.{Refused, Words, NoMemory, ReadFault, WriteFault}
@@ -35,19 +39,23 @@ pub record IsText (bytes : List ℕ) (names : List (List ℕ)) (forms : Forms) :
   pub numbered : Numbered spelling names forms
   pub no_fault : (kind at : ℕ) → TextFault bytes kind at → Prim.⊥
 
--- the forms have no fault and expand to this program, which is in scope
+-- the forms have no fault and expand to this program, which is in scope and whose code isn't too long
 pub record Makes (names : List (List ℕ)) (forms : Forms) (program : Program) : Type 0 where
   pub no_fault : expand_fault names forms ≡ None
   pub expands : ExpandsTo forms program
   pub in_scope : InScope program
+  pub short : length (compiled program).instructions ≤ 65535
 
--- What is wrong with forms, by kind and offset: their first fault, or else the first fault of the names in their program.
--- To run, all forms of the program must be of kinds that can be run: the first that isn't is kind 9.
+-- What is wrong with forms, by kind and offset: their first fault, or else the first fault of the names in their program, or
+-- else the 65,536th instruction of its code. To run, all forms of the program must be of kinds that can be run: the first that
+-- isn't is kind 9.
 pub data Unfit : Command → List (List ℕ) → Forms → (kind at : ℕ) → Type 0 where
   by_forms : {command : Command} {names : List (List ℕ)} {forms : Forms} {kind at : ℕ} → expand_fault names forms ≡ Some (at, kind)
       → Unfit command names forms kind at
   by_scope : {command : Command} {names : List (List ℕ)} {forms : Forms} {kind at : ℕ} (program : Program) → expand_fault names forms ≡ None
       → ExpandsTo forms program → scope_fault program ≡ Some (at, kind) → Unfit command names forms kind at
+  by_code : {command : Command} {names : List (List ℕ)} {forms : Forms} {at : ℕ} (program : Program) → expand_fault names forms ≡ None
+      → ExpandsTo forms program → InScope program → IsTooLong (compiled program) at → Unfit command names forms 19 at
   by_kind : {names : List (List ℕ)} {forms : Forms} {at : ℕ} {program : Program} → Makes names forms program
       → first_unbuilt program ≡ Some at → Unfit Run names forms 9 at
 
@@ -69,7 +77,7 @@ pub record IsRefused (command : Command) (bytes : List ℕ) (left : Option (List
   pub near : kind ≤ 8 → length taken ≤ at + 4096
   pub whole : 9 ≤ kind → rest ≡ []
 
--- the bytes are the source of this program, which is in scope
+-- the bytes are the source of this program, which is in scope and whose code isn't too long
 pub record IsSource (bytes : List ℕ) (program : Program) : Type 0 where
   pub names : List (List ℕ)
   pub forms : Forms
@@ -90,7 +98,7 @@ pub record IsTold (told : List ℕ → Option Story) (stop : stop.Stop) (output 
   pub output_is : output ≡ story.output
   pub lines_are : lines ≡ journal_text story.journal
 
--- the text that says that a source is a program in scope
+-- the text that says that nothing refuses a source
 abbrev pub approval : List ℕ
 approval = codes "ok\n"
 
@@ -100,6 +108,7 @@ pub data Writes : Command → List (List ℕ) → Forms → Program → stop.Sto
       → program_of program ≡ Some core → IsTold (program_told core usual) stop output lines → Writes Run names forms program stop output lines
   of_show : {names : List (List ℕ)} {forms : Forms} {program : Program} → Writes Show names forms program stops.Done (forms_text (spelled_forms names forms)) []
   of_check : {names : List (List ℕ)} {forms : Forms} {program : Program} → Writes Check names forms program stops.Done approval []
+  of_list : {names : List (List ℕ)} {forms : Forms} {program : Program} → Writes commands.List names forms program stops.Done (listing names (compiled program)) []
 
 -- Output holds a front of its text, and the journal nothing new, or else output holds its whole text, and the journal a
 -- front of its own.

@@ -23,7 +23,8 @@ pub fn refused_at_most_once()
     expands_to_at_most_one();
 }
 
-/// No command refuses the source of a program in scope, but to run it where a form can't be run yet.
+/// No command refuses the source of a program in scope with a code that isn't too long, but to run it
+/// where a form can't be run yet.
 pub fn programs_are_accepted()
     ensures { (command : Command) (bytes : List ℕ) (program : Program) → IsSource bytes program → (command ≡ Command.Run → first_unbuilt program ≡ None)
         → (kind at : ℕ) → Refusal command bytes kind at → ⊥ }

@@ -57,6 +57,7 @@ pub fn refusal_name(kind: u8) -> &'static [u8]
         15 => b"wrongcount",
         17 => b"shadow",
         18 => b"toomany",
+        19 => b"codetoolong",
         _ => b"badshape",
     }
 }

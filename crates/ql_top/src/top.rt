@@ -7,6 +7,7 @@ ghost use Rattle.ql_forms.specs.Form.{Forms};
 ghost use Rattle.ql_forms.specs.View.{forms_of};
 ghost use Rattle.ql_expand.specs.Core.{Program as Meant};
 ghost use Rattle.ql_expand.specs.ProgramView.{program_of};
+ghost use Rattle.ql_compile.specs.Compile.{compiled};
 ghost use Rattle.ql_top.specs.Runnable.{Core};
 ghost use Rattle.ql_top.specs.Meaning.{program_told};
 ghost use Rattle.ql_top.specs.Run.{Story};
@@ -33,7 +34,10 @@ use crate::words::{Command, asked};
 use crate::world::Stop;
 use crate::writing::write_text;
 use ql_base::limits::Limits;
+use ql_base::names::Names;
 use ql_base::outside::{Failed, Sink, Source};
+use ql_code::code::Code;
+use ql_code::listing::write_listing;
 use ql_expand::laws::forms_have_kinds_of_their_own;
 use ql_expand::program::Program;
 use ql_forms::text::Text;
@@ -62,9 +66,9 @@ pub fn one<S: Source, B: Source, O: Sink, J: Sink, E: Sink>(
     ensures words { (result ≡ Status.Words) ↔ (asked (texts_of words.now) ≡ None) }
 
     // The source is refused for the first fault of its text, or else of its forms, or else of its
-    // names. Else a check says that it is a program, a show writes the forms, and of a run output,
-    // journal and status are those of the meaning's run along the schedule that the journal itself
-    // spells.
+    // names, or else since its code is too long. Else a check says that it is a program, a show writes
+    // the forms, a list writes the code, and of a run output, journal and status are those of the
+    // meaning's run along the schedule that the journal itself spells.
     ensures answer { (bytes : List ℕ) (command : Command) → S.left source.old ≡ Some bytes → asked (texts_of words.now) ≡ Some command
         → Answers command result bytes (S.left source.new) (O.held out.old) (O.held out.new) (J.held journal.old) (J.held journal.new) }
 
@@ -91,7 +95,7 @@ pub fn one<S: Source, B: Source, O: Sink, J: Sink, E: Sink>(
     ensures says { SaysStatus result (E.held err.old) (E.held err.new) (E.faults err.old) (E.faults err.new) }
     ensures quiet { result ≡ Status.Done → (E.held err.new ≡ E.held err.old) × (E.faults err.new ≡ E.faults err.old) }
     ensures unread { result ≡ Status.Words → S.left source.new ≡ S.left source.old }
-    ensures no_journal { (asked (texts_of words.now) ≡ Some Command.Show) ⊎ (asked (texts_of words.now) ≡ Some Command.Check) → (J.held journal.new ≡ J.held journal.old) × (J.faults journal.new ≡ J.faults journal.old) }
+    ensures no_journal { (asked (texts_of words.now) ≡ Some Command.Show) ⊎ ((asked (texts_of words.now) ≡ Some Command.Check) ⊎ (asked (texts_of words.now) ≡ Some Command.List)) → (J.held journal.new ≡ J.held journal.old) × (J.faults journal.new ≡ J.faults journal.old) }
     ensures no_book { (B.left book.new ≡ B.left book.old) × (B.faults book.new ≡ B.faults book.old) }
 {
     let _ = book;
@@ -119,7 +123,7 @@ fn answer<S: Source, O: Sink, J: Sink>(
     ensures write_faults { WriteFaults result (O.faults out.old) (O.faults out.new) (J.faults journal.old) (J.faults journal.new) }
     ensures silent { IsSilent result → (O.held out.new ≡ O.held out.old) × (J.held journal.new ≡ J.held journal.old) }
     ensures unread { result ≡ Status.Words → S.left source.new ≡ S.left source.old }
-    ensures no_journal { (asked (texts_of words.now) ≡ Some Command.Show) ⊎ (asked (texts_of words.now) ≡ Some Command.Check) → (J.held journal.new ≡ J.held journal.old) × (J.faults journal.new ≡ J.faults journal.old) }
+    ensures no_journal { (asked (texts_of words.now) ≡ Some Command.Show) ⊎ ((asked (texts_of words.now) ≡ Some Command.Check) ⊎ (asked (texts_of words.now) ≡ Some Command.List)) → (J.held journal.new ≡ J.held journal.old) × (J.faults journal.new ≡ J.faults journal.old) }
 {
     match asked(words) {
         None => Status::Words,
@@ -144,7 +148,7 @@ fn answer_text<O: Sink, J: Sink>(
     ensures words { result ≡ Status.Words → ⊥ }
     ensures write_faults { WriteFaults result (O.faults out.old) (O.faults out.new) (J.faults journal.old) (J.faults journal.new) }
     ensures silent { IsSilent result → (O.held out.new ≡ O.held out.old) × (J.held journal.new ≡ J.held journal.old) }
-    ensures no_journal { (command ≡ Command.Show) ⊎ (command ≡ Command.Check) → (J.held journal.new ≡ J.held journal.old) × (J.faults journal.new ≡ J.faults journal.old) }
+    ensures no_journal { (command ≡ Command.Show) ⊎ ((command ≡ Command.Check) ⊎ (command ≡ Command.List)) → (J.held journal.new ≡ J.held journal.old) × (J.faults journal.new ≡ J.faults journal.old) }
 {
     // Facts that the clauses rest on; the calls do nothing.
     refused_at_most_once();
@@ -168,13 +172,14 @@ struct Texts {
 /// The texts of a command on the forms of a source, unless something is wrong with them.
 fn texts_of(alloc: Global, command: Command, text: &Text) -> Result<Texts, Status>
     ensures texts { Gives command result text.now.names (forms_of text.now.forms) }
-    ensures no_journal { (command ≡ Command.Show) ⊎ (command ≡ Command.Check) → IfOk result (λ texts. texts.journal.items ≡ []) }
+    ensures no_journal { (command ≡ Command.Show) ⊎ ((command ≡ Command.Check) ⊎ (command ≡ Command.List)) → IfOk result (λ texts. texts.journal.items ≡ []) }
 {
     match accept(alloc, text) {
-        Ok(scoped) => match command {
-            Command::Run => texts_of_run(alloc, scoped.program()),
+        Ok(accepted) => match command {
+            Command::Run => texts_of_run(alloc, accepted.scoped.program()),
             Command::Show => texts_of_show(alloc, text),
             Command::Check => texts_of_check(alloc),
+            Command::List => texts_of_list(alloc, &text.names, &accepted.code),
         },
         Err(status) => Err(status),
     }
@@ -220,13 +225,25 @@ fn texts_of_show(alloc: Global, text: &Text) -> Result<Texts, Status>
     }
 }
 
-/// That a source is a program in scope.
+/// That nothing refuses a source.
 fn texts_of_check(alloc: Global) -> Result<Texts, Status>
     ensures texts { (names : List (List ℕ)) (forms : Forms) (program : Meant) → Makes names forms program → Gives Command.Check result names forms }
     ensures no_journal { IfOk result (λ texts. texts.journal.items ≡ []) }
 {
     match Vec::from_slice(alloc, b"ok\n") {
         Ok(output) => Ok(output_alone(alloc, output)),
+        Err(_) => Err(Status::NoMemory),
+    }
+}
+
+/// The listing of a program's code.
+fn texts_of_list(alloc: Global, names: &Names, code: &Code) -> Result<Texts, Status>
+    ensures texts { (forms : Forms) (program : Meant) → Makes names.now forms program → code.now ≡ compiled program → Gives Command.List result names.now forms }
+    ensures no_journal { IfOk result (λ texts. texts.journal.items ≡ []) }
+{
+    let mut output = Vec::new(alloc);
+    match write_listing(alloc, code, names, &mut output) {
+        Ok(()) => Ok(output_alone(alloc, output)),
         Err(_) => Err(Status::NoMemory),
     }
 }

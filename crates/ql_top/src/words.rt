@@ -10,8 +10,11 @@ pub enum Command {
     Run,
     /// Writes each form of the source in its one spelling, on a line of its own.
     Show,
-    /// Writes `ok` where the source is a program whose names are in scope.
+    /// Writes `ok` where the source is a program whose names are in scope and whose code isn't too
+    /// long.
     Check,
+    /// Writes the instructions of the program's code, each on a line of its own.
+    List,
 }
 
 /// The command that the words ask for, if they ask for one.
@@ -33,6 +36,8 @@ fn command_of(word: &str) -> Option<Command>
         Some(Command::Show)
     } else if word == "check" {
         Some(Command::Check)
+    } else if word == "list" {
+        Some(Command::List)
     } else {
         None
     }

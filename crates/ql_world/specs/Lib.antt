@@ -1,4 +1,5 @@
 pub mod Event
+pub mod Follows
 pub mod Idle
 pub mod Machine
 pub mod Operator

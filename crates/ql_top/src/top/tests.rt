@@ -71,6 +71,15 @@ const CASES: &[Case] = &[
         err: b"",
     },
     Case {
+        name: "list of a call",
+        words: &["list"],
+        source: b"(defun twice (n) (+ n n)) (print (twice 3))",
+        status: Status::Done,
+        out: b"0 lit 3 @40\n1 call 5 1 0 @33\n2 print @26\n3 drop @26\n4 end @0\n5 local 0 @20\n6 local 0 @22\n7 prim + @17\n8 return @0\n",
+        journal: b"",
+        err: b"",
+    },
+    Case {
         name: "words too many",
         words: &["run", "show"],
         source: b"1",

@@ -4,7 +4,6 @@ use Rattle.ql_forms.specs.Spelled.{none}
 use Rattle.ql_read.specs.TextFault.{IsRefused, unfinished}
 use Rattle.ql_read.specs.Numbering.{ended}
 use Rattle.ql_read.specs.Scan.{top, scan, start}
-use Rattle.ql_read.specs.Fault.{fault_told}
 use Rattle.ql_read.specs.View.{nested, state_of}
 use Rattle.ql_read.proofs.Naming.{goes_on_same}
 use Rattle.ql_read.proofs.Taking.{leads_on, taken_one, byte_is_bad, bad_is_here, one_too_many, as_answered}
@@ -24,7 +23,7 @@ returns-in-Some-clause-bad c = λ kind at e p h.
     leads_on old p c.args.b c.replace-token.result after (top none) later h c.replace-token.ensures.value c.in-Ok.ensures.ok (goes_on_same later) in
     as_answered (λ k n. IsRefused (p ++ c.args.b ∷ []) k n) c.number.result c.in-Some.at kind at e
     (subst (λ k. IsRefused (p ++ c.args.b ∷ []) k c.in-Some.at) (sym c.number.ensures)
-    (byte_is_bad old (after later) p c.args.b c.in-Some.at (fault_told c.in-Some.fault) h c.if-self-ge-LIMIT.false is
+    (byte_is_bad old (after later) p c.args.b c.in-Some.at c.in-Some.fault h c.if-self-ge-LIMIT.false is
     (sym (c.in-Some.ensures (old.taken + 1) (nested later c.take_byte.new.nesting)))))
 
 pub returns-in-Some-clause-here : goal.returns-in-Some-clause-here
@@ -36,7 +35,7 @@ returns-in-Some-clause-here c = λ kind at e p h.
     leads_on old p c.args.b c.replace-token.result after (top none) later h c.replace-token.ensures.value c.in-Ok.ensures.ok (goes_on_same later) in
     as_answered (λ k n. (n ≡ length p) × (k < unfinished)) c.number.result c.in-Some.at kind at e
     (subst (λ k. (c.in-Some.at ≡ length p) × (k < unfinished)) (sym c.number.ensures)
-    (bad_is_here old (after later) p c.args.b c.in-Some.at (fault_told c.in-Some.fault) h is
+    (bad_is_here old (after later) p c.args.b c.in-Some.at c.in-Some.fault h is
     (sym (c.in-Some.ensures (old.taken + 1) (nested later c.take_byte.new.nesting)))))
 
 pub returns-in-None-clause-ok : goal.returns-in-None-clause-ok

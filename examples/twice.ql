@@ -1,0 +1,2 @@
+(defun twice (n) (+ n n))
+(print (twice 3))
