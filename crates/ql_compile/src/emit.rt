@@ -1,16 +1,15 @@
 //! The instructions of a program, one after another.
 
-ghost use Rattle.std.specs.Prelude.{◌≡◌, ◌+◌, ◌++◌, ◌∷◌, [], None, false, true, List, length, IfOk, OnOk, map};
-ghost use Rattle.ql_base.specs.declared.numbers.Offset.{Offset as OffsetOf};
+ghost use Rattle.std.specs.Prelude.{◌≡◌, ◌+◌, ◌++◌, ◌∷◌, [], None, List, length, IfOk, OnOk, map};
 ghost use Rattle.ql_expand.specs.ProgramView.{program_of};
 ghost use Rattle.ql_expand.specs.View.{binders_of, bounds_of, constant_of, core_of, cores_of, function_of, name_of, node_of};
 ghost use Rattle.ql_expand.specs.Core.{constant, variable};
 ghost use Rattle.ql_scope.specs.Scope.{binders_in};
 ghost use Rattle.ql_code.specs.Code as spec;
 ghost use Rattle.ql_code.specs.Code.{Instruction, instruction};
-ghost use Rattle.ql_code.specs.declared.code.Op.TheVariants.{Bind as bind, Branch as branch, Catch as catch, End as end, Exit as exit, Funcall as funcall, FuncallDrop as funcall_drop, Join as join, Jump as jump, Leave as leave, Protect as protect, Qcatch as qcatch, Qlet as qlet, Return as return, Slide as slide, Touch as touch};
-ghost use Rattle.ql_meaning.specs.Context.{context_of, stored_among};
-ghost use Rattle.ql_compile.specs.Compile.{Scope, body_scope, captured, caught_slots, entry_of, find_in, instructions_of, mask, places_of, primitive_op, call_op, place_called, read_op, starts_of, with_variables, write_op};
+ghost use Rattle.ql_code.specs.declared.code.Op.TheVariants.{Branch as branch, Catch as catch, End as end, Exit as exit, Jump as jump, Leave as leave, Protect as protect, Qcatch as qcatch, Return as return, Slide as slide};
+ghost use Rattle.ql_meaning.specs.Context.{context_of};
+ghost use Rattle.ql_compile.specs.Compile.{Scope, body_scope, captured, caught_slots, entry_of, find_in, instructions_of, mask, places_of, call_op, place_called, starts_of, write_op};
 ghost use Rattle.ql_compile.specs.Emission.{HasWords};
 ghost use Rattle.ql_compile.specs.Emitting.{Binds, Closes, Emits, Gathers, called, Fills, closing, closure_code, context_in, core_code, cores_code, dropped, followed, forms_code, function_code, functions_code, joined_code, just, node_code, places_in, tops_code, under_code, values_code, within};
 
@@ -70,9 +69,9 @@ fn whole(lookup: &Lookup) -> Result<Output, AllocError>
     Ok(output)
 }
 
-/// The slots of the frame at hand, and the instructions so far.
+// The slots of the frame at hand, and the instructions so far.
 #[derive(Drop)]
-pub struct Emitter<'p, 'q, 'a> {
+struct Emitter<'p, 'q, 'a> {
     lookup: &'p Lookup<'q, 'a>,
     frame: Frame,
     output: Output,
