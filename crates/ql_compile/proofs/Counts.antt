@@ -1,5 +1,5 @@
 -- How many there are of what a program lists.
-use Rattle.std.proofs.Common.{◌≡◌, ◌∙◌, Option, Some, None, ℕ, ◌+◌, List, [], ◌∷◌, length, map, refl, ap, arith}
+use Rattle.std.proofs.Common.{◌≡◌, Option, Some, None, ℕ, ◌+◌, List, [], ◌∷◌, length, map, refl, ap, arith}
 use Rattle.std.specs.Prelude.{option_map}
 use Rattle.ql_expand.specs.View.{binders_of, bounds_of, cores_of}
 use Rattle.ql_expand.specs.Core.{Bounds, no_bounds, and_bound, Cores, Function}
@@ -7,7 +7,6 @@ use Rattle.ql_expand.specs.declared.core_form.Binder.{Binder}
 use Rattle.ql_expand.specs.declared.core_form.Bound.{Bound}
 use Rattle.ql_expand.specs.declared.core_form.Core.{Core}
 use Rattle.ql_scope.specs.Scope.{binders_in}
-use Rattle.ql_scope.proofs.Opened.{bound_opened, variables_are}
 use Rattle.ql_meaning.specs.Context.{Context}
 use Rattle.ql_code.specs.declared.code.FunEntry.{FunEntry}
 use Rattle.ql_code.specs.declared.code.Op.TheVariants.{Call as call}

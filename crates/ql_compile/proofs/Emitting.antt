@@ -1,19 +1,19 @@
 -- One step of the emitter after another.
-use Rattle.std.proofs.Common.{◌≡◌, ℕ, suc, ◌+◌, Result, Bool, true, false, List, [], ◌∷◌, ◌++◌, length, map, Some, None, refl, ap, sym, ◌∙◌, subst, arith, append_assoc, length-append}
+use Rattle.std.proofs.Common.{◌≡◌, ℕ, ◌+◌, Result, Bool, true, false, List, [], ◌∷◌, ◌++◌, length, None, refl, ap, sym, ◌∙◌, subst, arith, append_assoc, length-append}
 use Rattle.std.specs.Prelude.{OnOk}
 use Rattle.std.proofs.lemmas.Result.{on_ok_weaker}
 use Rattle.ql_expand.specs.Core as core
 use Rattle.ql_expand.specs.Core.{Binder, Core, Node, conditional, binding, primitive, lambda, Cores, no_cores, and_core, Bounds, no_bounds, and_bound, Function, function}
 use Rattle.ql_scope.specs.Scope.{binders_in}
-use Rattle.ql_meaning.specs.Context.{offset_of, stored_among}
+use Rattle.ql_meaning.specs.Context.{stored_among}
 use Rattle.ql_code.specs.Code.{Instruction, instruction}
 use Rattle.ql_code.specs.declared.code.Op.{Op}
-use Rattle.ql_code.specs.declared.code.Op.TheVariants.{Bind as bind, Branch as branch, Catch as catch, Drop as drop, End as end, EndClean as end_clean, Exit as exit, Join as join, Jump as jump, Leave as leave, Protect as protect, Qcatch as qcatch, Qlet as qlet, Return as return, Slide as slide, Throw as throw, Touch as touch}
-use Rattle.ql_compile.specs.Compile.{Scope, body_scope, captured, caught_slots, code, code_of_cores, code_of_joined, code_of_values, mask, size, size_of_joined, size_of_values, starts_of, with_variables}
-use Rattle.ql_compile.specs.Emitting.{Binds, Closes, Emits, Fills, Gathers, called, closing, closure_code, context_in, core_code, cores_code, dropped, followed, forms_code, function_code, functions_code, joined_code, just, node_code, places_in, tops_code, under_code, values_code, within}
+use Rattle.ql_code.specs.declared.code.Op.TheVariants.{Bind as bind, Branch as branch, End as end, EndClean as end_clean, Exit as exit, Jump as jump, Leave as leave, Protect as protect, Qlet as qlet, Return as return, Slide as slide, Throw as throw, Touch as touch}
+use Rattle.ql_compile.specs.Compile.{body_scope, captured, caught_slots, code, code_of_cores, code_of_joined, mask, size, size_of_joined, size_of_values, starts_of, with_variables}
+use Rattle.ql_compile.specs.Emitting.{Closes, Emits, Fills, Gathers, called, closing, closure_code, context_in, core_code, cores_code, followed, joined_code, just, node_code, places_in, under_code, values_code, within}
 use Rattle.ql_compile.specs.declared.emit.Emitter.{Emitter}
 use Rattle.ql_compile.proofs.Counts.{starts_length}
-use Rattle.ql_compile.proofs.Sizes.{long, long_cores, long_joined, long_values}
+use Rattle.ql_compile.proofs.Sizes.{long, long_joined, long_values}
 
 abbrev pub with_output : Emitter → List Instruction → Emitter
 with_output e is = record e { output = is }

@@ -1,9 +1,9 @@
 -- Steps of the emitter under other slots, and in loops.
-use Rattle.std.proofs.Common.{◌≡◌, ℕ, zero, suc, ◌+◌, ◌<◌, ◌==◌, Result, Bool, true, false, List, [], ◌∷◌, ◌++◌, length, map, drop, Some, None, refl, ap, sym, ◌∙◌, subst, arith, add-one, append_assoc, append-nil, length-append, length-drop, ◌-◌}
+use Rattle.std.proofs.Common.{◌≡◌, ℕ, zero, suc, ◌+◌, ◌==◌, Result, Bool, true, false, List, [], ◌∷◌, ◌++◌, length, drop, Some, None, refl, ap, sym, ◌∙◌, arith, add-one, append_assoc, append-nil, length-append, length-drop, ◌-◌}
 use Rattle.std.specs.Prelude.{OnOk, nat_lt}
 use Rattle.std.proofs.lemmas.Bool.Decides.{nat_tests}
 use Rattle.std.proofs.lemmas.Result.{on_ok_weaker}
-use Rattle.ql_expand.specs.Core.{Binder, Core, Cores, no_cores, and_core, Bounds, no_bounds, and_bound, Function, function}
+use Rattle.ql_expand.specs.Core.{Binder, Core, Cores, no_cores, and_core, Bounds, and_bound, Function, function}
 use Rattle.ql_expand.specs.View.{core_of, cores_of}
 use Rattle.ql_expand.specs.declared.core_form.Core.{Core as CoreValue}
 use Rattle.ql_meaning.specs.Context.{name_of, offset_of, stored_among}
@@ -12,7 +12,7 @@ use Rattle.ql_code.specs.declared.code.Op.TheVariants.{Bind as bind, Drop as dro
 use Rattle.ql_compile.specs.Compile.{Scope, body_scope, captured, caught_slots, code, code_of_cores, code_of_forms, code_of_functions, code_of_joined, code_of_tops, code_of_values, mask, places_from, size, size_of_function, size_of_tops, starts_of, with_variables}
 use Rattle.ql_compile.specs.Emitting.{Binds, Emits, closing, closure_code, context_in, core_code, cores_code, dropped, followed, forms_code, function_code, functions_code, joined_code, just, places_in, tops_code, under_code, values_code, within}
 use Rattle.ql_compile.specs.declared.emit.Emitter.{Emitter}
-use Rattle.ql_compile.proofs.Emitting.{and_then, emits_then, far, hole, same_code, with_output}
+use Rattle.ql_compile.proofs.Emitting.{and_then, emits_then, hole, with_output}
 use Rattle.ql_compile.proofs.Sizes.{long}
 
 -- variables stand above what was there

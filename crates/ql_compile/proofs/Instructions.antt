@@ -1,5 +1,5 @@
 -- Instructions one after another.
-use Rattle.std.proofs.Common.{◌≡◌, ℕ, zero, suc, ◌+◌, true, false, List, [], ◌∷◌, ◌++◌, length, Some, None, refl, ap, sym, ◌∙◌, subst, arith, append_assoc, length-append}
+use Rattle.std.proofs.Common.{◌≡◌, List, [], ◌∷◌, ◌++◌, length, refl, ap, arith}
 use Rattle.std.specs.Prelude.{slice_set}
 use Rattle.ql_base.specs.declared.numbers.Offset.{Offset}
 use Rattle.ql_code.specs.Code.{Instruction, instruction, instructions_of}

@@ -2,7 +2,6 @@
 use Rattle.std.specs.Prelude.{◌≡◌, ℕ, ◌+◌, Bool, true, false, List, [], ◌∷◌, ◌++◌, length}
 use Rattle.ql_expand.specs.Core.{Binder, Core, Node, Cores, Bounds, Function}
 use Rattle.ql_expand.specs.ProgramView.{program_of}
-use Rattle.ql_scope.specs.Scope.{binders_in}
 use Rattle.ql_meaning.specs.Context.{Context, context_of, stored_among}
 use Rattle.ql_code.specs.Code.{Instruction, instruction}
 use Rattle.ql_code.specs.declared.code.Op.{Op}

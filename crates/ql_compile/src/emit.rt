@@ -1,4 +1,7 @@
 //! The instructions of a program, one after another.
+//!
+//! An instruction that leads on to a place which isn't known yet leaves a hole, an instruction of no meaning. The hole
+//! is filled as soon as that place is reached.
 
 ghost use Rattle.std.specs.Prelude.{◌≡◌, ◌+◌, ◌++◌, ◌∷◌, [], None, List, length, IfOk, OnOk, map};
 ghost use Rattle.ql_expand.specs.ProgramView.{program_of};
@@ -69,7 +72,7 @@ fn whole(lookup: &Lookup) -> Result<Output, AllocError>
     Ok(output)
 }
 
-// The slots of the frame at hand, and the instructions so far.
+/// The slots of the frame at hand, and the instructions so far.
 #[derive(Drop)]
 struct Emitter<'p, 'q, 'a> {
     lookup: &'p Lookup<'q, 'a>,
@@ -342,6 +345,7 @@ impl<'p, 'q, 'a> Emitter<'p, 'q, 'a> {
         self.output.push(op, at)
     }
 
+    // Pushes a constant.
     fn constant(&mut self, at: Offset, value: Constant) -> Result<(), AllocError>
         ensures { OnOk result (Emits self.old self.new (node_code at.0 (constant (constant_of value.entry)))) }
     {
@@ -349,6 +353,7 @@ impl<'p, 'q, 'a> Emitter<'p, 'q, 'a> {
         self.add(op, at)
     }
 
+    // Pushes the value of a variable.
     fn variable(&mut self, at: Offset, name: VarName) -> Result<(), AllocError>
         ensures { OnOk result (Emits self.old self.new (node_code at.0 (variable (name_of name)))) }
     {
@@ -401,7 +406,7 @@ impl<'p, 'q, 'a> Emitter<'p, 'q, 'a> {
         number(self.output.len())
     }
 
-    // The next place is one more of these.
+    // The next place, as one more of these.
     fn here_into(&self, places: &mut Vec<u32>) -> Result<(), AllocError>
         ensures { OnOk result (places.new.items ≡ places.old.items ++ length self.now.output ∷ []) }
     {
@@ -420,7 +425,7 @@ impl<'p, 'q, 'a> Emitter<'p, 'q, 'a> {
         Ok(place)
     }
 
-    // Puts the instruction into its place.
+    // Puts an instruction where a hole was left.
     fn fill(&mut self, hole: usize, op: Op)
         ensures { Fills self.old self.new hole op }
     {
@@ -436,6 +441,7 @@ impl<'p, 'q, 'a> Emitter<'p, 'q, 'a> {
         Ok(())
     }
 
+    // The way from before the other form goes on here.
     fn jump_here(&mut self, hole: usize) -> Result<(), AllocError>
         ensures { OnOk result (Fills self.old self.new hole (jump (length self.old.output))) }
     {
@@ -454,6 +460,7 @@ impl<'p, 'q, 'a> Emitter<'p, 'q, 'a> {
         Ok(())
     }
 
+    // The end of a catch that waits for all that is at work within it.
     fn qcatch_here(&mut self, at: Offset, hole: usize) -> Result<(), AllocError>
         ensures { OnOk result (Closes self.old self.new hole (qcatch (length self.old.output + 1)) (instruction exit at.0)) }
     {

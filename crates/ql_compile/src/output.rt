@@ -56,7 +56,7 @@ impl Output {
         Ok(())
     }
 
-    /// Changes what the instruction at this place does.
+    /// Changes what the instruction at this place does, if there is one.
     pub fn replace(&mut self, place: usize, op: Op)
         ensures { (before after : List Instruction) (i : Instruction) → self.old ≡ before ++ i ∷ after → place ≡ length before → self.new ≡ before ++ instruction op i.at ∷ after }
     {

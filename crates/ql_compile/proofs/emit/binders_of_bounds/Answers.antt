@@ -1,4 +1,4 @@
-use Rattle.std.proofs.Common.{◌≡◌, ◌∙◌, ◌+◌, ◌<◌, ◌++◌, ◌∷◌, [], sym, ap, append-nil, append_assoc, arith, length, drop}
+use Rattle.std.proofs.Common.{◌∙◌, ◌+◌, ◌<◌, ◌++◌, ◌∷◌, [], sym, ap, append-nil, append_assoc, arith, length, drop}
 use Rattle.std.proofs.lemmas.List.{drop_all, map-append}
 use Rattle.ql_expand.specs.View.{binder_of, binders_of, bounds_of}
 use Rattle.ql_scope.specs.Scope.{binders_in}

@@ -1,4 +1,4 @@
-use Rattle.std.proofs.Common.{◌≡◌, ◌∙◌, ap, map}
+use Rattle.std.proofs.Common.{◌∙◌, ap, map}
 use Rattle.ql_expand.specs.View.{cores_of, function_of}
 use Rattle.ql_compile.proofs.Framed.{whole_code}
 use Rattle.ql_compile.proofs.emit.whole.Goals as goal

@@ -1,4 +1,4 @@
-use Rattle.std.proofs.Common.{◌≡◌, ◌++◌, ◌∷◌, []}
+use Rattle.std.proofs.Common.{◌∷◌, []}
 use Rattle.ql_code.specs.Code.{instruction}
 use Rattle.ql_code.specs.declared.code.Op.TheVariants.{Funcall as funcall, Touch as touch}
 use Rattle.ql_compile.proofs.Counts.{count_is}

@@ -1,4 +1,4 @@
-use Rattle.std.proofs.Common.{◌≡◌, ◌∙◌, ◌+◌, ◌<◌, refl, ap, arith, length, drop, map}
+use Rattle.std.proofs.Common.{◌∙◌, ◌+◌, ◌<◌, refl, ap, arith, length, drop, map}
 use Rattle.std.proofs.lemmas.List.{drop_all}
 use Rattle.ql_expand.specs.View.{function_of}
 use Rattle.ql_scope.proofs.Added.{drop_is}

@@ -1,4 +1,4 @@
-use Rattle.std.proofs.Common.{◌≡◌, ◌∙◌, ◌++◌, ◌∷◌, [], ap}
+use Rattle.std.proofs.Common.{◌∙◌, ◌++◌, ◌∷◌, [], ap}
 use Rattle.ql_code.specs.Code.{instruction}
 use Rattle.ql_compile.proofs.Instructions.{one_more}
 use Rattle.ql_compile.proofs.output.Output.push.Goals as goal
