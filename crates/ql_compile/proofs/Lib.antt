@@ -3,6 +3,7 @@ mod Along
 mod Assigned
 mod Assigns
 mod Bodies
+mod Capturing
 mod Caught
 mod Checked
 mod Compilable

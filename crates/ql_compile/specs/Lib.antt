@@ -1,6 +1,7 @@
 pub mod Compile
 pub mod Emission
 pub mod Emitting
+pub mod Free
 pub mod Laws
 pub mod Measure
 pub mod Named
