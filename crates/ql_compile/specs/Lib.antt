@@ -1,5 +1,6 @@
 pub mod Compile
 pub mod Emission
+pub mod Emitting
 pub mod Free
 pub mod Laws
 pub mod Measure
