@@ -39,18 +39,18 @@ doubled : (v w : ℕ) → (2 * v == 2 * w) ≡ (v == w)
 doubled v w = ⊎_elim
     (λ (e : (v == w) ≡ true). let same : v ≡ w = eqb-true v w e in eq-eqb (2 * v) (2 * w) (ap (λ n. 2 * n) same) ∙ sym e)
     (λ (e : (v == w) ≡ false). ⊎_elim
-        (λ (d : (2 * v == 2 * w) ≡ true). let both : 2 * v ≡ 2 * w = eqb-true (2 * v) (2 * w) d in let same : v ≡ w = omega (arith, both) in d ∙ sym (eq-eqb v w same))
-        (λ (d : (2 * v == 2 * w) ≡ false). d ∙ sym e)
-        (cases (2 * v == 2 * w)))
+    (λ (d : (2 * v == 2 * w) ≡ true). let both : 2 * v ≡ 2 * w = eqb-true (2 * v) (2 * w) d in let same : v ≡ w = omega (arith, both) in d ∙ sym (eq-eqb v w same))
+    (λ (d : (2 * v == 2 * w) ≡ false). d ∙ sym e)
+    (cases (2 * v == 2 * w)))
     (cases (v == w))
 
 odd : (v w : ℕ) → (2 * v + 1 == 2 * w + 1) ≡ (v == w)
 odd v w = ⊎_elim
     (λ (e : (v == w) ≡ true). let same : v ≡ w = eqb-true v w e in eq-eqb (2 * v + 1) (2 * w + 1) (ap (λ n. 2 * n + 1) same) ∙ sym e)
     (λ (e : (v == w) ≡ false). ⊎_elim
-        (λ (d : (2 * v + 1 == 2 * w + 1) ≡ true). let both : 2 * v + 1 ≡ 2 * w + 1 = eqb-true (2 * v + 1) (2 * w + 1) d in let same : v ≡ w = omega (arith, both) in d ∙ sym (eq-eqb v w same))
-        (λ (d : (2 * v + 1 == 2 * w + 1) ≡ false). d ∙ sym e)
-        (cases (2 * v + 1 == 2 * w + 1)))
+    (λ (d : (2 * v + 1 == 2 * w + 1) ≡ true). let both : 2 * v + 1 ≡ 2 * w + 1 = eqb-true (2 * v + 1) (2 * w + 1) d in let same : v ≡ w = omega (arith, both) in d ∙ sym (eq-eqb v w same))
+    (λ (d : (2 * v + 1 == 2 * w + 1) ≡ false). d ∙ sym e)
+    (cases (2 * v + 1 == 2 * w + 1)))
     (cases (v == w))
 
 even_odd : (v w : ℕ) → (2 * v == 2 * w + 1) ≡ false

@@ -2,8 +2,8 @@ use Rattle.std.proofs.Common.{◌∙◌, ◌+◌, ◌<◌, ◌++◌, ◌∷◌, 
 use Rattle.std.proofs.lemmas.List.{drop_all, map-append}
 use Rattle.ql_expand.specs.View.{binder_of, binders_of, bounds_of}
 use Rattle.ql_scope.specs.Scope.{binders_in}
-use Rattle.ql_scope.proofs.Added.{drop_is}
-use Rattle.ql_scope.proofs.Opened.{bound_opened}
+use Rattle.ql_compile.proofs.Rests.{drop_is}
+use Rattle.ql_expand.specs.Opened.{bound_opened}
 use Rattle.ql_compile.proofs.emit.binders_of_bounds.Goals as goal
 
 pub loop-bound-init : goal.loop-bound-init

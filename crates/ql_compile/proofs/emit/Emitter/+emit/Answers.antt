@@ -7,8 +7,8 @@ use Rattle.ql_expand.specs.declared.core_form.VarName.TheVariants.{Sym}
 use Rattle.ql_scope.specs.Scope.{binders_in}
 use Rattle.ql_code.specs.Code.{instruction}
 use Rattle.ql_code.specs.declared.code.Op.TheVariants.{Catch, Join, Qcatch}
-use Rattle.ql_scope.proofs.Added.{drop_is}
-use Rattle.ql_scope.proofs.Opened.{opened, bound_opened, if_is, let_is, call_is, funcall_is, qlet_is, qlambda_is, catch_is, qcatch_is, throw_is, protect_is}
+use Rattle.ql_compile.proofs.Rests.{drop_is}
+use Rattle.ql_expand.specs.Opened.{opened, bound_opened, if_is, let_is, call_is, funcall_is, qlet_is, qlambda_is, catch_is, qcatch_is, throw_is, protect_is}
 use Rattle.ql_meaning.specs.Context.{offset_of}
 use Rattle.ql_compile.specs.Compile.{call_op, find_in, place_called, starts_of, write_op}
 use Rattle.ql_compile.specs.Emitting.{context_in, core_code, followed, cores_code, joined_code, just, places_in, values_code, within}

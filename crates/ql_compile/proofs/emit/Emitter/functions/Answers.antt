@@ -1,7 +1,7 @@
 use Rattle.std.proofs.Common.{◌∙◌, ◌+◌, ◌<◌, refl, ap, arith, length, drop, map}
 use Rattle.std.proofs.lemmas.List.{drop_all}
 use Rattle.ql_expand.specs.View.{function_of}
-use Rattle.ql_scope.proofs.Added.{drop_is}
+use Rattle.ql_compile.proofs.Rests.{drop_is}
 use Rattle.ql_compile.proofs.Framed.{function_one, nothing_left}
 use Rattle.ql_compile.proofs.emit.Emitter.functions.Goals as goal
 

@@ -2,8 +2,8 @@ use Rattle.std.proofs.Common.{◌≡◌, ◌∙◌, ◌+◌, ◌<◌, refl, ap, 
 use Rattle.std.proofs.lemmas.List.{drop_all}
 use Rattle.ql_expand.specs.View.{core_of, cores_of}
 use Rattle.ql_meaning.specs.Context.{offset_of}
-use Rattle.ql_scope.proofs.Added.{drop_is}
-use Rattle.ql_scope.proofs.Opened.{opened}
+use Rattle.ql_compile.proofs.Rests.{drop_is}
+use Rattle.ql_expand.specs.Opened.{opened}
 use Rattle.ql_compile.proofs.Framed.{nothing_left, top_one}
 use Rattle.ql_compile.proofs.emit.Emitter.tops.Goals as goal
 
