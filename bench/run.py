@@ -1,8 +1,9 @@
 #!/usr/bin/env python3
 """Times and peak memory of the built program, on sources that grow, and beside a stock Lisp.
 
-Each source is measured at its size and at half of it. Most of those for `check` have a code that is too long, and are
-refused for that alone, once they are read, expanded and checked and their code is measured. It is no part of the gate.
+Each source is measured at its size and at half of it. Those of 1 MiB for `check` have a code that is too long, most of
+them, and are refused for that alone, once they are read, expanded and checked and their code is measured. Those with a
+code as long as may be are checked and listed. It is no part of the gate.
 
     bench/run.py            prints a table
 """
@@ -18,7 +19,9 @@ PROGRAM = os.path.join(TOP, "bin", "ql")
 MIB = 1 << 20
 MOST_GROWTH = 2.3
 # bytes of memory at the peak for each byte of the source
-MOST_BYTES = {"run": 200, "show": 200, "check": 400}
+MOST_BYTES = {"run": 200, "show": 200, "check": 400, "list": 400}
+# about as many instructions as a code may have
+MOST_CODE = 65000
 RUNS = 20
 LONG_CODE = b"ql: refused codetoolong at "
 
@@ -124,6 +127,30 @@ def wide_bindings(n):
     return b"(let* (" + b" ".join(b"(v%d %s)" % (i, b"v%d" % (i - 1) if i else b"0") for i in range(196)) + b") v195)"
 
 
+def nested_closures(n):
+    """Closures 90 deep, each of which captures the parameters of all around it."""
+    names = [b"v%d" % i for i in range(90)]
+    return b"".join(b"(lambda (" + name + b") " for name in names) + b"(list " + b" ".join(names) + b")" + b")" * 90
+
+
+def quoted_lists(n):
+    return b"'(" + b" ".join(b"(a%d . b)" % (n + i) for i in range(20)) + b")"
+
+
+def fitting(half, length, form):
+    """Forms with codes of this length and a drop, as many as a code may have, or half of them."""
+    return b"\n".join(form(n) for n in range((MOST_CODE // (length + 1)) >> half)) + b"\n"
+
+
+FITTING = [
+    ("small functions", lambda half: small_functions((68 * MOST_CODE // 6) >> half)),
+    ("one function", lambda half: one_function((280 * MOST_CODE // 20) >> half)),
+    ("nested lets", lambda half: fitting(half, 592, nested_lets)),
+    ("nested closures", lambda half: fitting(half, 361, nested_closures)),
+    ("sums of 198", lambda half: fitting(half, 395, lambda n: b"(+" + b" 1" * 198 + b")")),
+    ("quoted lists", lambda half: many(MIB >> half, quoted_lists)),
+]
+
 SOURCES = [
     ("check", "small functions", lambda half: small_functions(MIB >> half)),
     ("check", "one function", lambda half: one_function(MIB >> half)),
@@ -145,7 +172,7 @@ SOURCES = [
     ("show", "one symbol", lambda half: quoted(one_symbol(), MIB >> half)),
     ("show", "199-level nests", lambda half: quoted(nests(), MIB >> half)),
     ("show", "one long comment", lambda half: comment(MIB >> half)),
-]
+] + [(command, "longest code: " + name, make) for name, make in FITTING for command in ("check", "list")]
 
 
 def measure(command, paths):
