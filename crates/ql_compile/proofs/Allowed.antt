@@ -17,7 +17,7 @@ use Rattle.ql_world.specs.Operator.{operator_of}
 use Rattle.ql_meaning.specs.Context.{same_name, place_of, function_called}
 use Rattle.ql_compile.specs.Compile.{count}
 use Rattle.ql_compile.proofs.Compilable.{is_bound, is_global, is_seen, has_parameters, has_operands, is_right, is_right_node, are_right, are_right_values, are_right_functions, is_compilable}
-use Rattle.ql_compile.proofs.Scopes.{cases}
+use Rattle.ql_compile.proofs.Cases.{cases}
 
 abbrev Goes : Bool → Bool → Type 0
 Goes a b = a ≡ true → b ≡ true

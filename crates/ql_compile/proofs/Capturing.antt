@@ -14,13 +14,14 @@ use Rattle.ql_expand.specs.declared.core_form.Core.{Core}
 use Rattle.ql_expand.specs.declared.core_form.Node.{fold-roll-Node}
 use Rattle.ql_expand.specs.declared.core_form.Node.TheOpen.{Node-F}
 use Rattle.ql_expand.specs.declared.core_form.Node.TheViews as view
-use Rattle.ql_compile.proofs.Rests.{or_assoc, or_false}
+use Rattle.ql_compile.proofs.Cases.{or_assoc, or_false}
 use Rattle.ql_meaning.specs.Context.{same_name, name_of}
 use Rattle.ql_compile.specs.Compile.{Scope, is_name_among, without, without_all, caught, caught_slots}
 use Rattle.ql_compile.specs.declared.captured.Taken.{Taken}
 use Rattle.ql_compile.specs.Free.{caught_of, named_by, with_name, with_names, Gathered, Gathers}
 use Rattle.ql_compile.specs.declared.names.Key.{Key}
-use Rattle.ql_compile.proofs.Scopes.{cases, name_same, binds_name}
+use Rattle.ql_compile.proofs.Cases.{cases}
+use Rattle.ql_compile.proofs.Scopes.{name_same, binds_name}
 
 name_sym : (x y : Name) → same_name x y ≡ same_name y x
 name_sym x y =

@@ -8,7 +8,8 @@ use Rattle.ql_meaning.specs.Context.{same_name, name_of}
 use Rattle.ql_meaning.specs.Control.{Bindings, lookup, bind_all}
 use Rattle.ql_compile.specs.Compile.{Scope, find_in, is_name_among, without, without_all, with_variables, caught, caught_slots, scope_of}
 use Rattle.ql_code.specs.Machine.{slots_at}
-use Rattle.ql_compile.proofs.Scopes.{cases, name_same, binds_name, Match, Sees, match_more, Suited, stacked, long_bound, match_bound_all, still_among, not_among, bound_not_among, unbound_among, below_long}
+use Rattle.ql_compile.proofs.Cases.{cases}
+use Rattle.ql_compile.proofs.Scopes.{name_same, binds_name, Match, Sees, match_more, Suited, stacked, long_bound, match_bound_all, still_among, not_among, bound_not_among, unbound_among, below_long}
 
 abbrev pub Caught : Type 0
 Caught = List (ℕ × (Name × Bool))

@@ -11,7 +11,8 @@ use Rattle.ql_meaning.specs.Context.{same_name, name_of, place_of, parameters_of
 use Rattle.ql_compile.specs.Compile.{is_name_among, without, without_all, free, free_in_node, free_in_cores, free_in_values, count}
 use Rattle.ql_compile.proofs.Compilable.{is_bound, is_global, is_seen, has_parameters, has_operands, is_right, is_right_node, are_right, are_right_values, are_right_functions, is_compilable}
 use Rattle.ql_compile.proofs.Right.{IsGlobal, AreGlobal, IsFunction, IsPrimitive, IsRight, IsRightNode, AreRight, AreRightValues, AreRightFunctions}
-use Rattle.ql_compile.proofs.Scopes.{cases, name_same, binds_name, bound_not_among}
+use Rattle.ql_compile.proofs.Cases.{cases}
+use Rattle.ql_compile.proofs.Scopes.{name_same, binds_name, bound_not_among}
 
 left : (b c : Bool) → (b && c) ≡ true → b ≡ true
 left true c h = refl

@@ -11,7 +11,8 @@ use Rattle.ql_compile.specs.Compile.{Scope, is_name_among, without_all, free, fr
 use Rattle.ql_code.specs.Machine as machine
 use Rattle.ql_code.specs.Machine.{Mark, base, Item, slot, mark, word, push, frame_of, top_mark, Point, Entry, State, running}
 use Rattle.ql_compile.proofs.Right.{IsRight, IsRightNode, AreRight, AreRightValues}
-use Rattle.ql_compile.proofs.Scopes.{cases, sees_more, among_left, among_right, name_refl}
+use Rattle.ql_compile.proofs.Cases.{cases}
+use Rattle.ql_compile.proofs.Scopes.{sees_more, among_left, among_right, name_refl}
 use Rattle.ql_compile.proofs.Sizes.{HasAt, front, back, long, long_cores, long_values, code_values, values_size}
 use Rattle.ql_compile.proofs.Relation.{Beyond, arity, free_after, size_after, code_after, RightAfter, Fits, After, Rest, operand, forms, At, at_literal, at_read, at_close, at_guard, at_act}
 

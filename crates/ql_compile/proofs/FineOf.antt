@@ -15,7 +15,7 @@ use Rattle.ql_compile.specs.Compile.{Scope, Places, find_in, is_name_among, with
 use Rattle.ql_code.specs.Sound.{is_constant}
 use Rattle.ql_compile.proofs.Compilable.{is_bound, is_global, is_seen, has_parameters, has_operands, is_right, is_right_node, are_right, are_right_values}
 use Rattle.ql_compile.proofs.Sized.{is_named, is_sized, is_sized_node, are_sized, are_sized_values}
-use Rattle.ql_compile.proofs.SlotKinds.{cases}
+use Rattle.ql_compile.proofs.Cases.{cases}
 use Rattle.ql_compile.proofs.Noted.{inner_scope}
 use Rattle.ql_compile.proofs.Fine.{IsGlobal, Readable, Writable, IsCalled, IsPrimitive, Fine, FineNode, FineCores, FineValues, FineForms}
 use Rattle.ql_compile.proofs.Scopes.{name_same, name_refl, binds_name, among_left, among_right, still_among, not_among, bound_not_among, unbound_among}

@@ -19,7 +19,8 @@ use Rattle.ql_code.specs.Sound.{value, catching, protecting, cleaning, Shape, St
 use Rattle.ql_compile.proofs.Along.{Along, front, back, both}
 use Rattle.ql_compile.proofs.Sizes.{long, long_cores, long_values, long_joined}
 use Rattle.ql_compile.proofs.Noted.{Here, on, with_value, with_values, same_start, only, or_else, either, kinds_of, Note, note, kinds, with_kinds, inner_scope, body_shape, noted, noted_node, noted_cores, noted_values, noted_joined, noted_forms, same, same_cores, same_values, same_joined}
-use Rattle.ql_compile.proofs.SlotKinds.{cases, found, kinds_slots, slots_over, over_onto, over_long, over_slots, kinds_bound, caught_there, kinds_caught, mask_fits, variables_are, under_them, values_more, slots_kinds}
+use Rattle.ql_compile.proofs.Cases.{cases}
+use Rattle.ql_compile.proofs.SlotKinds.{found, kinds_slots, slots_over, over_onto, over_long, over_slots, kinds_bound, caught_there, kinds_caught, mask_fits, variables_are, under_them, values_more, slots_kinds}
 use Rattle.ql_compile.proofs.Fine.{Readable, Writable, IsCalled, IsPrimitive, Fine, FineNode, FineCores, FineValues, FineForms}
 
 pub mapped_is : (f : Shape → Shape) (o : Option Shape) (sh : Shape) → option_map f o ≡ Some sh → (r : Shape) × (o ≡ Some r) × (sh ≡ f r)

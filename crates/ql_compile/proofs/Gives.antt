@@ -16,7 +16,8 @@ use Rattle.ql_compile.specs.Compile.{Scope, free, free_in_cores, count, size, Pl
 use Rattle.ql_code.specs.Machine as machine
 use Rattle.ql_code.specs.Machine.{Mark, base, Item, slot, mark, word, words, push, frame_of, top_mark, joins_at, silent, slid, Point, point, State, running, settle, settled}
 use Rattle.ql_compile.proofs.Right.{AreRight}
-use Rattle.ql_compile.proofs.Scopes.{cases, sees_none}
+use Rattle.ql_compile.proofs.Cases.{cases}
+use Rattle.ql_compile.proofs.Scopes.{sees_none}
 use Rattle.ql_compile.proofs.Sizes.{HasAt, front, back, long, joined, joined_size}
 use Rattle.ql_compile.proofs.Stacks.{same_over, without_over, push_last, words_pushed}
 use Rattle.ql_compile.proofs.Relation.{Beyond, arity, Fits, After, Operands, Tops, Rest, jumping, sliding, operand, joins, forms, tops, touching, waiting, Waits, returns, exits, leaves, cleans, child, server, At, at_literal, at_read, at_close, at_guard, at_act, at_touch, at_bind, at_given, at_reply, at_end, Follow}

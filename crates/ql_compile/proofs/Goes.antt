@@ -27,7 +27,8 @@ use Rattle.ql_compile.specs.Compile.{Scope, find_in, with_variables, free, free_
 use Rattle.ql_code.specs.Machine as machine
 use Rattle.ql_code.specs.Machine.{Mark, base, Item, slot, mark, word, words, push, push_slots, frame_of, top_mark, below_mark, cleanups_on, unwind, aim_cleanup, Point, point, Entry, State, running, op_want, op_go, one_go, go_in, running_go, want_in, operand_count, settled, code_machine}
 use Rattle.ql_compile.proofs.Right.{IsRight}
-use Rattle.ql_compile.proofs.Scopes.{Match, cases}
+use Rattle.ql_compile.proofs.Cases.{cases}
+use Rattle.ql_compile.proofs.Scopes.{Match}
 use Rattle.ql_compile.proofs.Sizes.{HasAt, front, front_one, back, long, long_joined, code_joined, joined_sizes}
 use Rattle.ql_compile.proofs.Stacks.{same_over, words_pushed, without_pushed}
 use Rattle.ql_compile.proofs.Relation.{Known, Stood, Same, Fits, arity, After, Clean, Rest, jumping, touching, waiting, Waits, returns, exits, leaves, cleans, child, server, Stops, at_catch, at_protect, at_clean, at_tops, at_child, at_server, at_nothing, At, at_literal, at_read, at_close, at_guard, at_act, at_touch, at_bind, at_given, at_reply, at_unwinding, at_end, at_resting, at_over, Follow}

@@ -4,6 +4,7 @@ mod Assigned
 mod Assigns
 mod Bodies
 mod Capturing
+mod Cases
 mod Caught
 mod Checked
 mod Compilable

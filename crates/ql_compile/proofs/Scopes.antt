@@ -1,5 +1,5 @@
 -- What a variable is, in bindings and in a frame.
-use Rattle.std.proofs.Common.{◌≡◌, ◌⊎◌, ℕ, suc, ◌<◌, ◌==◌, Bool, true, false, List, [], ◌∷◌, ◌++◌, length, Option, Some, None, refl, ap, ◌∙◌, subst, ⊎_elim, inl, inr, arith, eq-eqb, eqb-true, ne_eqb}
+use Rattle.std.proofs.Common.{◌≡◌, ℕ, suc, ◌<◌, ◌==◌, Bool, true, false, List, [], ◌∷◌, ◌++◌, length, Option, Some, None, refl, ap, ◌∙◌, subst, ⊎_elim, arith, eq-eqb, eqb-true, ne_eqb}
 use Rattle.std.specs.Prelude.{if◌then◌else◌, ◌||◌}
 use Rattle.ql_world.specs.declared.word.Slot.{Slot}
 use Rattle.ql_world.specs.declared.word.Slot.TheVariants.{Val as plain, Cell as boxed}
@@ -7,16 +7,13 @@ use Rattle.ql_expand.specs.Core.{Name, named, hidden, Binder}
 use Rattle.ql_meaning.specs.Context.{same_name, name_of}
 use Rattle.ql_meaning.specs.Control.{Bindings, lookup, bind_all}
 use Rattle.ql_compile.specs.Compile.{Scope, find_in, is_name_among, without, without_all, with_variables}
+use Rattle.ql_compile.proofs.Cases.{cases}
 use Rattle.ql_compile.proofs.Right.{IsGlobal, AreGlobal}
 use Rattle.ql_code.specs.Machine.{slot_at}
 
 abbrev pub is_box : Slot → Bool
 is_box (plain w) = false
 is_box (boxed n) = true
-
-pub cases : (b : Bool) → (b ≡ true) ⊎ (b ≡ false)
-cases true = inl refl
-cases false = inr refl
 
 pub name_same : (x y : Name) → same_name x y ≡ true → x ≡ y
 name_same (named v) (named w) h = ap named (eqb-true v w h)

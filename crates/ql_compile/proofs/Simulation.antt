@@ -23,7 +23,8 @@ use Rattle.ql_code.specs.Machine.{Mark, base, Item, slot, mark, word, push, push
 use Rattle.ql_compile.proofs.Compilable.{is_compilable}
 use Rattle.ql_compile.proofs.Right.{AreRightFunctions, IsRightFunction}
 use Rattle.ql_compile.proofs.Checked.{Checked, checked}
-use Rattle.ql_compile.proofs.Scopes.{cases, sees_more}
+use Rattle.ql_compile.proofs.Cases.{cases}
+use Rattle.ql_compile.proofs.Scopes.{sees_more}
 use Rattle.ql_compile.proofs.Sizes.{HasAt, front, front_one, back, long, has_all}
 use Rattle.ql_compile.proofs.Relation.{Known, Same, arity, After, waiting, Waits, returns, exits, leaves, cleans, child, server, At, at_literal, at_read, at_close, at_guard, at_act, at_touch, at_bind, at_given, at_reply, at_unwinding, at_end, at_resting, at_over, Follow}
 use Rattle.ql_compile.proofs.Descends.{sub_left}

@@ -1,5 +1,5 @@
 -- The kinds of a scope's slots.
-use Rattle.std.proofs.Common.{◌≡◌, ◌⊎◌, ℕ, zero, suc, ◌+◌, ◌*◌, ◌^◌, ◌<◌, ◌≤◌, ◌==◌, Bool, true, false, List, [], ◌∷◌, ◌++◌, length, map, Option, Some, None, refl, sym, ap, ◌∙◌, subst, ⊎_elim, inl, inr, arith, eq-eqb, ne_eqb, pow-suc}
+use Rattle.std.proofs.Common.{◌≡◌, ℕ, zero, suc, ◌+◌, ◌*◌, ◌^◌, ◌<◌, ◌≤◌, ◌==◌, Bool, true, false, List, [], ◌∷◌, ◌++◌, length, map, Option, Some, None, refl, sym, ap, ◌∙◌, subst, ⊎_elim, arith, eq-eqb, ne_eqb, pow-suc}
 use Rattle.std.specs.Prelude.{◌/◌, ◌%◌, if◌then◌else◌, is_some}
 use Rattle.std.proofs.lemmas.List.{length-map}
 use Rattle.std.proofs.lemmas.Bool.{lt-ltb, le-leb}
@@ -9,11 +9,8 @@ use Rattle.ql_meaning.specs.Context.{same_name, name_of}
 use Rattle.ql_code.specs.Code.{bit, mask_of, unmasked}
 use Rattle.ql_compile.specs.Compile.{Scope, find_in, is_name_among, without, caught, caught_slots, scope_of, with_variables}
 use Rattle.ql_code.specs.Sound.{Part, value, boxed, catching, protecting, cleaning, Shape, is_slot, are_slots, slots_in, part_at, values, part_of, over, variables, is_mask, have_all, parts_at, same_part, under}
+use Rattle.ql_compile.proofs.Cases.{cases}
 use Rattle.ql_compile.proofs.Noted.{slot_kind, kinds_of}
-
-pub cases : (b : Bool) → (b ≡ true) ⊎ (b ≡ false)
-cases true = inl refl
-cases false = inr refl
 
 pub kinds_long : (sc : Scope) → length (kinds_of sc) ≡ length sc
 kinds_long sc = length-map sc slot_kind

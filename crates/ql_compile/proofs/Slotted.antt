@@ -1,5 +1,5 @@
 -- The rows of a frame, and the map from names to their last variables.
-use Rattle.std.proofs.Common.{◌≡◌, ◌∙◌, ◌⊎◌, ⊎_elim, inl, inr, ℕ, ◌+◌, ◌*◌, ◌≤◌, ◌<◌, Bool, true, false, ◌==◌, if◌then◌else◌, List, [], ◌∷◌, ◌++◌, length, Option, Some, None, is_some, refl, ap, sym, subst, arith, zero, suc, eq-eqb, eqb-true}
+use Rattle.std.proofs.Common.{◌≡◌, ◌∙◌, ⊎_elim, ℕ, ◌+◌, ◌*◌, ◌≤◌, ◌<◌, Bool, true, false, ◌==◌, if◌then◌else◌, List, [], ◌∷◌, ◌++◌, length, Option, Some, None, is_some, refl, ap, sym, subst, arith, zero, suc, eq-eqb, eqb-true}
 use Rattle.std.specs.Prelude.{option_map, slice_get}
 use Rattle.ql_expand.specs.Core.{Name, named, hidden}
 use Rattle.ql_expand.specs.View.{name_of}
@@ -8,11 +8,9 @@ use Rattle.ql_meaning.specs.Context.{same_name}
 use Rattle.ql_compile.specs.Compile.{Scope, find_in}
 use Rattle.ql_compile.specs.Slots.{key_of, variable_of, stacked, place_told, place_at, Hides, KeepHidden, HasPlaces}
 use Rattle.ql_compile.specs.declared.frame.Row.{Row}
+use Rattle.ql_compile.proofs.Cases.{cases}
+use Rattle.ql_compile.proofs.Scopes.{name_same, name_refl}
 use Rattle.ql_compile.specs.declared.frame.Place.{Place}
-
-cases : (b : Bool) → (b ≡ true) ⊎ (b ≡ false)
-cases true = inl refl
-cases false = inr refl
 
 -- One more row is the top slot.
 pub stacked_last : (rows : List Row) (r : Row) (below : Scope) → stacked (rows ++ r ∷ []) below ≡ variable_of r.variable ∷ stacked rows below
@@ -71,16 +69,6 @@ same_key (named v) (hidden n) = even_odd v n
 same_key (hidden m) (named w) = odd_even m w
 same_key (hidden m) (hidden n) = odd m n
 
-pub same_is : (x y : Name) → same_name x y ≡ true → x ≡ y
-same_is (named v) (named w) h = ap named (eqb-true v w h)
-same_is (named v) (hidden n) h = absurd cc
-same_is (hidden m) (named w) h = absurd cc
-same_is (hidden m) (hidden n) h = ap hidden (eqb-true m n h)
-
-pub same_self : (x : Name) → same_name x x ≡ true
-same_self (named v) = eq-eqb v v refl
-same_self (hidden n) = eq-eqb n n refl
-
 -- An operand is added.
 pub pushed_operand : (rows : List Row) (r : Row) (entries : List (ℕ × Place)) → r.variable ≡ None → HasPlaces rows entries → HasPlaces (rows ++ r ∷ []) entries
 pushed_operand rows r entries e h = record {
@@ -109,7 +97,7 @@ pub is_there : (rows : List Row) (r : Row) (v : VarName) (s : Bool) (entries : L
     → is_some (place_at entries key) ≡ true
 is_there rows r v s entries key h e is =
     told (place_at entries key) (ap (λ k. place_told (place_at entries k)) is ∙ (h.places (name_of v) ∙ (ap (λ sc. find_in sc (name_of v)) (stacked_last rows r [])
-    ∙ (ap (λ w. find_in (variable_of w ∷ stacked rows []) (name_of v)) e ∙ ap (λ b. if b then Some (length (stacked rows []), s) else find_in (stacked rows []) (name_of v)) (same_self (name_of v))))))
+    ∙ (ap (λ w. find_in (variable_of w ∷ stacked rows []) (name_of v)) e ∙ ap (λ b. if b then Some (length (stacked rows []), s) else find_in (stacked rows []) (name_of v)) (name_refl (name_of v))))))
   where
     told : (p : Option Place) → place_told p ≡ Some (length (stacked rows []), s) → is_some p ≡ true
     told None k = absurd cc
@@ -133,7 +121,7 @@ popped_variable rows r v s old new key h e is put =
 
     by : (x : Name) → place_told r.hides ≡ find_in (stacked rows []) (name_of v) → (t : Bool) → t ≡ same_name (name_of v) x
         → place_told (if t then r.hides else place_at old (key_of x)) ≡ find_in (stacked rows []) x
-    by x hides true i = hides ∙ ap (find_in (stacked rows [])) (same_is (name_of v) x (sym i))
+    by x hides true i = hides ∙ ap (find_in (stacked rows [])) (name_same (name_of v) x (sym i))
     by x hides false i = found x ∙ ap (λ b. if b then Some (length (stacked rows []), s) else find_in (stacked rows []) x) (sym i)
 
 -- An operand is taken away.

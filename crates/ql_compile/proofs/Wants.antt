@@ -22,7 +22,8 @@ use Rattle.ql_compile.specs.Compile.{Scope, find_in, count, Places, read_op, wri
 use Rattle.ql_code.specs.Machine as machine
 use Rattle.ql_code.specs.Machine.{Mark, Item, slot, word, words, push, frame_of, top_mark, cleanups_on, State, op_want, operand_count, want_in, running_want}
 use Rattle.ql_compile.proofs.Right.{IsPrimitive}
-use Rattle.ql_compile.proofs.Scopes.{Match, name_refl, cases, match_more, below_long}
+use Rattle.ql_compile.proofs.Cases.{cases}
+use Rattle.ql_compile.proofs.Scopes.{Match, name_refl, match_more, below_long}
 use Rattle.ql_compile.proofs.Stacks.{same_over, words_pushed}
 use Rattle.ql_compile.proofs.Relation.{Known, Fits, arity, After, Waits, returns, exits, leaves, cleans, child, server, Stops, at_catch, at_protect, at_clean, at_tops, at_child, at_server, at_nothing, At, at_literal, at_read, at_close, at_guard, at_act, at_touch, at_bind, at_given, at_reply, at_unwinding, at_end, at_resting, at_over}
 use Rattle.ql_compile.proofs.Unwinds.{same_cleanups}

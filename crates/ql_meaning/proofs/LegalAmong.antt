@@ -8,7 +8,7 @@ use Rattle.ql_meaning.specs.Legal.{IsAmong}
 use Rattle.ql_meaning.specs.Legal as law
 use Rattle.ql_meaning.specs.Sane.{without_turns}
 use Rattle.ql_meaning.specs.Sane as saw
-use Rattle.ql_meaning.proofs.LegalLists.{cases}
+use Rattle.ql_meaning.proofs.Lists.{cases}
 use Rattle.ql_meaning.proofs.LegalLines.{Fine, Each}
 
 -- turned round

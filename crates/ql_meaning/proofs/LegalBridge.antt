@@ -18,7 +18,7 @@ use Rattle.ql_meaning.specs.Sane.{without_turns, protector, is_begun, is_finishe
 use Rattle.ql_meaning.specs.Sane as saw
 use Rattle.ql_meaning.specs.Bridge.{LinesTell}
 use Rattle.ql_meaning.specs.Laws.{IsReached}
-use Rattle.ql_meaning.proofs.LegalLists.{cases, some_same, numbered_mapped, numbered_of_mapped, length_mapped}
+use Rattle.ql_meaning.proofs.Lists.{cases, some_same, numbered_mapped, numbered_of_mapped, map_length}
 use Rattle.ql_meaning.proofs.LegalLines.{Person, persons_in, opens_in, person_of, opening_of, over_in, owner_in, Fine, Knows}
 use Rattle.ql_meaning.proofs.LegalKills.{over_is, owner_is}
 use Rattle.ql_meaning.proofs.Over.{catch_low}
@@ -36,7 +36,7 @@ entry_is : (cs : List Catch) (c : ℕ) → entry_in (map opening_of cs) c ≡ op
 unfolding entry_in
 entry_is [] c = refl
 entry_is (k ∷ cs) c =
-    let len : length (map opening_of cs) ≡ length cs = length_mapped opening_of cs in
+    let len : length (map opening_of cs) ≡ length cs = map_length opening_of cs in
     ⊎_elim
     (λ (t : (c == length cs) ≡ true). rw (len, t) refl)
     (λ (t : (c == length cs) ≡ false). rw (len, t) (entry_is cs c))
@@ -140,7 +140,7 @@ module _ (w : World Thread Closure) (s : Sane w) (k : Knows w.events w.procs w.c
     spawned = λ n h a. at_person (HomeIs h) n (at_home N n h each (home_map w.events N down n h a));
     killed = λ n q e. ((λ a. die_is q.aim (same_person IsDead n q e (killed_is_dead N a.0 n each (down _ refl a.1)))), (λ d. kill_map N w.events up n (dead_was_killed N n (person_of q) (person_at n q e) (ap is_die d))));
     ended = λ n q e. ((λ a. same_person IsEnded n q e (⊎_elim (λ t. ended_well_is_ended N n t.0 each (down _ refl t.1)) (λ t. ended_killed_is_ended N n each (down _ refl t)) a)), (λ d. end_map N w.events up n (ended_has_end N n (person_of q) (person_at n q e) d)));
-    owners = λ c j e. owns_map N w.events up j.owner c (subst (λ z. Owns N z c) (ap (λ (z : List (ℕ × ℕ)). owner_in z c) k.opens ∙ owner_is w.catches c j e) (owner_tells N c each (let l = catch_low w.catches c j e in let z : length (opens_in N) ≡ length w.catches = ap length k.opens ∙ length_mapped opening_of w.catches in omega (arith, l, z))));
+    owners = λ c j e. owns_map N w.events up j.owner c (subst (λ z. Owns N z c) (ap (λ (z : List (ℕ × ℕ)). owner_in z c) k.opens ∙ owner_is w.catches c j e) (owner_tells N c each (let l = catch_low w.catches c j e in let z : length (opens_in N) ≡ length w.catches = ap length k.opens ∙ map_length opening_of w.catches in omega (arith, l, z))));
     opens = opened_told;
     within = λ n q c e. ((λ i. within_told n q c e i), (λ i. within_tells n q c e i));
     protects = λ u. ((λ a. protect_made u a.0 a.1), (λ h. protect_tells u h.0 h.1));

@@ -15,7 +15,7 @@ use Rattle.ql_world.specs.Tick.{or_home, is_seen, landing}
 use Rattle.ql_meaning.specs.Context.{Context}
 use Rattle.ql_meaning.specs.Control.{Thread, Closure, Frame, Control, finished, cleanups_on, innermost_on, want_of}
 use Rattle.ql_meaning.specs.Sane.{Mark, catch_mark, protect_mark, cleanup_mark, base_mark, marks_of, doing_of, Seen, seen, without_turns, outline, innermost_or, Stands, cleanups_of, is_unwinding, WorkSane, Based, protector, is_finished, waiting, running, Holds, AllUnder, Rising, Stage, IsHeld, Sane}
-use Rattle.ql_meaning.proofs.LegalLists.{cases, some_same, numbered_mapped}
+use Rattle.ql_meaning.proofs.Lists.{cases, some_same, numbered_mapped}
 use Rattle.ql_meaning.proofs.LegalLines.{Person, person_of, Alive, Cleans, May, MayBegin, MayFinish, Knows}
 use Rattle.ql_meaning.proofs.LegalWants.{Finished, cleanups_same, is_of_base, bare, top_of_begin, top_of_finish}
 use Rattle.ql_meaning.proofs.Marks.{chained_open, innermost_low, over_innermost}

@@ -18,7 +18,7 @@ use Rattle.ql_meaning.specs.Sane.{Mark, cleanup_mark, marks_on, marks_of, cleanu
 use Rattle.ql_meaning.proofs.Marks.{aim_based}
 use Rattle.ql_meaning.proofs.Threads as threads
 use Rattle.ql_meaning.proofs.Threads.{unwind_marks, aim_same}
-use Rattle.ql_meaning.proofs.LegalLists.{cases}
+use Rattle.ql_meaning.proofs.Lists.{cases}
 use Rattle.ql_meaning.proofs.LegalWants.{where_finish}
 
 -- catch c is above the floor of a running cleanup

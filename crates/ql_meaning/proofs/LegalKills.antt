@@ -14,7 +14,7 @@ use Rattle.ql_world.specs.Within.{is_over, is_live, is_within}
 use Rattle.ql_world.specs.Machine.{Machine}
 use Rattle.ql_world.specs.Idle.{unwinds_at, abandoned, abandoned_server, killed_if_within, killed_among}
 use Rattle.ql_meaning.specs.Sane.{without_turns}
-use Rattle.ql_meaning.proofs.LegalLists.{cases, apart, both_true, not_true, some_same, numbered_unchanged, map_changed, numbered_mapped, length_change_numbered, length_mapped}
+use Rattle.ql_meaning.proofs.Lists.{cases, apart, both_true, not_true, some_same, numbered_unchanged, map_changed, numbered_mapped, changed_length, map_length}
 use Rattle.ql_meaning.proofs.LegalLines.{Person, with_death, persons_in, opens_in, person_of, opening_of, over_in, owner_in, is_due, due_from, due, Calm, IsVictim, Each, spelled_by}
 
 -- turns
@@ -48,13 +48,13 @@ spelled_of_tick p (e ∷ es) = refl
 pub over_is : (cs : List Catch) (c d : ℕ) → over_in (map opening_of cs) c d ≡ is_over cs c d
 over_is [] c d = refl
 over_is (k ∷ cs) c d =
-    let len : length (map opening_of cs) ≡ length cs = length_mapped opening_of cs in
+    let len : length (map opening_of cs) ≡ length cs = map_length opening_of cs in
     rw (len, over_is cs c k.enclosing, over_is cs c d) refl
 
 pub owner_is : (cs : List Catch) (c : ℕ) (k : Catch) → catch_at cs c ≡ Some k → owner_in (map opening_of cs) c ≡ k.owner
 owner_is [] c k e = absurd cc
 owner_is (j ∷ cs) c k e =
-    let len : length (map opening_of cs) ≡ length cs = length_mapped opening_of cs in
+    let len : length (map opening_of cs) ≡ length cs = map_length opening_of cs in
     ⊎_elim
     (λ (t : (c == length cs) ≡ true). let same : Some j ≡ Some k = rw t at e in rw (len, t) (ap (λ (z : Catch). z.owner) (some_same same)))
     (λ (t : (c == length cs) ≡ false). rw (len, t) (owner_is cs c k (rw t at e)))
@@ -173,7 +173,7 @@ module _ {P K : Type 0} (m : Machine P K) where
           left = ap (λ (z : List (ℕ × ℕ)). drop 1 z) next;
           rest = ap (λ (z : List Person). drop (suc n) z) changed ∙ drop_changed with_death (map person_of w.procs) n ∙ rest_too;
           kept = ap (λ (z : List Person). numbered z owner) changed ∙ numbered_unchanged with_death (map person_of w.procs) (suc n) owner other ∙ k.kept;
-          count = length_change_numbered _ w.procs (suc n) ∙ k.count;
+          count = changed_length _ w.procs (suc n) ∙ k.count;
         } in
         rw t (abandoned_keeps (Killing c owner cs0 ps0 (suc n)) _ q.kind done))
         (λ (t : (is_live q && (is_within w.catches q c && not (suc n == owner))) ≡ false).

@@ -34,7 +34,7 @@ use Rattle.ql_meaning.specs.Control.{Thread, Closure, finished, cleanups_on, inn
 use Rattle.ql_meaning.specs.Sane.{Mark, catch_mark, protect_mark, cleanup_mark, base_mark, Seen, seen, Server, without_turns, innermost_or, Stands, StandsAbove, Chained, cleanups_of, Among, Aims, Floors, marks_of, doing_of, is_unwinding, Sane, Based}
 use Rattle.ql_meaning.proofs.Over.{Falling, catch_low, over_over, over_le, closed_cases, closed_length}
 use Rattle.ql_meaning.proofs.Marks.{chained_open, over_innermost, stands_under, home_under, stands_in_line}
-use Rattle.ql_meaning.proofs.LegalLists.{cases, apart, both_true, or_false, not_true, some_same, numbered_pushed, numbered_mapped, numbered_of_mapped, numbered_changed, numbered_of_changed}
+use Rattle.ql_meaning.proofs.Lists.{cases, apart, both_true, or_false, not_true, some_same, numbered_pushed, numbered_mapped, numbered_of_mapped, numbered_changed, numbered_of_changed}
 use Rattle.ql_meaning.proofs.LegalLines.{opens_in, over_in, Knows}
 use Rattle.ql_meaning.proofs.LegalKills.{over_is, abandoned_keeps}
 use Rattle.ql_meaning.proofs.LegalWants.{Finished, is_finished_or, finished_where, cleanups_same, is_of_unwinding, is_of_base, works_for, none_runs, top_of_leave, top_of_end}
@@ -333,20 +333,20 @@ module _ (x : Context) (names : List (List ℕ)) (limits : Limits) (u : World Th
       let r = owner_there c k.0 l.0 k.1 open_now in
       let ris : numbered (map seen u.procs) k.0.owner ≡ Some (seen r.0) = numbered_mapped seen u.procs k.0.owner r.0 r.1 in
       ⊎_elim
-      (λ (t : r.0.aim ≡ die). clash o (sane.aims.dying k.0.owner (seen r.0) c ris t r.2 i (seen s) is live))
+      (λ (t : r.0.aim ≡ die). not_both o (sane.aims.dying k.0.owner (seen r.0) c ris t r.2 i (seen s) is live))
       (λ t. ⊎_elim
       (λ (z : (d : ℕ) × (y : Word) × (r.0.aim ≡ to d y) × (d ≤ c)).
       let st = aimed_stands k.0.owner c z.0 z.1 r.0 r.1 r.2 z.2 in
       let line : is_over u.catches z.0 c ≡ true = stands_in_line u.catches k.0.owner r.0.home z.0 c (marks r.0) sane.homes.falling (sane.catches.chained k.0.owner (seen r.0) ris) st r.2 z.3 in
-      clash (over_over u.catches z.0 c s.home sane.homes.falling line o) (sane.aims.leaving k.0.owner (seen r.0) z.0 z.1 ris z.2 i (seen s) is live))
+      not_both (over_over u.catches z.0 c s.home sane.homes.falling line o) (sane.aims.leaving k.0.owner (seen r.0) z.0 z.1 ris z.2 i (seen s) is live))
       (λ (z : Under c r.0.thread.frames).
       let above : StandsAbove c (marks r.0) = floor_above u.catches k.0.owner r.0.home c [] (marks r.0) sane.homes.falling (sane.catches.chained k.0.owner (seen r.0) ris) (sane.aims.floors k.0.owner (seen r.0) ris) (subst (FloorUnder c) (sym (cleanups_same r.0.thread.control r.0.thread.frames (unfinished_where_stands k.0.owner c r.0 r.1 r.2))) z) r.2 in
-      clash o (sane.empty.fresh k.0.owner (seen r.0) c ris above i (seen s) is))
+      not_both o (sane.empty.fresh k.0.owner (seen r.0) c ris above i (seen s) is))
       t)
       (l.1 r.0 r.1)
     where
-      clash : {b : Bool} → b ≡ true → b ≡ false → ⊥
-      clash s t = let bad : true ≡ false = sym s ∙ t in absurd cc
+      not_both : {b : Bool} → b ≡ true → b ≡ false → ⊥
+      not_both s t = let bad : true ≡ false = sym s ∙ t in absurd cc
 
   module _ (p : ℕ) (q : Process Thread) (at : numbered u.procs p ≡ Some q) (at_work : q.ended ≡ false) where
     pub record Fresh (v : World Thread Closure) : Type 0 where
@@ -738,8 +738,8 @@ module _ (x : Context) (names : List (List ℕ)) (limits : Limits) (u : World Th
             ris : numbered (map seen u.procs) k.owner ≡ Some (seen r)
             ris = numbered_mapped seen u.procs k.owner r rk
 
-            clash : {b : Bool} → b ≡ true → b ≡ false → ⊥
-            clash s t = let bad : true ≡ false = sym s ∙ t in absurd cc
+            not_both : {b : Bool} → b ≡ true → b ≡ false → ⊥
+            not_both s t = let bad : true ≡ false = sym s ∙ t in absurd cc
 
             lower : (c' : ℕ) (y' : Word) → r.aim ≡ to c' y' → c' < c → ⊥
             lower c' y' aim l =
@@ -755,8 +755,8 @@ module _ (x : Context) (names : List (List ℕ)) (limits : Limits) (u : World Th
                 let own : k.owner ≡ p = sym i.1.owner ∙ belongs c' i.1.kept i.1.is s in
                 let me : r ≡ q = some_same (sym rk ∙ ap (λ z. numbered u.procs z) own ∙ at) in
                 let f : is_free r.aim ≡ true = subst (λ (z : Process Thread). is_free z.aim ≡ true) (sym me) (free_here (none_runs x _ t) w).0 in
-                clash f (ap is_free aim))
-                (λ (s : is_over u.catches c' q.home ≡ true). clash s (sane.aims.leaving k.owner (seen r) c' y' ris aim p (seen q) (here x u sane knows p q at at_work) (live_here x u sane knows p q at at_work nf (none_runs x _ t) w)))
+                not_both f (ap is_free aim))
+                (λ (s : is_over u.catches c' q.home ≡ true). not_both s (sane.aims.leaving k.owner (seen r) c' y' ris aim p (seen q) (here x u sane knows p q at at_work) (live_here x u sane knows p q at at_work nf (none_runs x _ t) w)))
                 (over_innermost u.catches p q.home c' (marks q) sane.homes.falling chained_here o)
 
         throws_outside : (y : Word) → works → cleans ≡ false → Fresh (with_owner_aimed m names limits p q (thrown c k.owner) k.owner (to c y))

@@ -10,7 +10,7 @@ use Rattle.ql_world.specs.World.{numbered}
 use Rattle.ql_world.specs.Run.{those_from}
 use Rattle.ql_meaning.specs.Legal.{IsAmong, HasHome, Owns, IsOver, itself, over_enclosing, HasKill, HasEnd, Not, IsDoomed, IsNumber, AllAbove, Rises, starts_with_kill, KillsFollow, KillsAfter, KillsLaw, IsCleaning, AfterKill, UnwindingLaw, CleanupLine, CleanupsLaw, CallLine, CallsLaw, Legal}
 use Rattle.ql_meaning.specs.Sane.{without_turns, protector, is_begun, is_finished}
-use Rattle.ql_meaning.proofs.LegalLists.{clash, nothing_there, cases, both_true, not_true, some_same}
+use Rattle.ql_meaning.proofs.Lists.{not_both, nothing_there, cases, both_true, not_true, some_same}
 use Rattle.ql_meaning.proofs.LegalLines.{Person, persons_in, opens_in, over_in, owner_in, is_due, due_from, all_due, due, Calm, Alive, Cleans, May, Fine, Each}
 use Rattle.ql_meaning.proofs.LegalAmong.{split_back, reverse_onto_past, is_turn, news_before, before_news, news_are_before, news_append, among_news, among_all, among_reverse, among_back, sends_before, takes_before, replies_before, each_from, EachNews, each_news}
 use Rattle.ql_meaning.proofs.LegalPast.{HasPerson, IsEnded, HomeIs, killed_is_dead, dead_was_killed, ended_well_is_ended, ended_killed_is_ended, ended_has_end, at_home, has_home, home_low, over_low, over_newer, over_later, over_told, over_tells, owner_told, owner_tells, protect_told, protector_tells, begin_told, begun_tells, finish_told, finished_tells, sent_tells, taken_tells, answered_tells}
@@ -420,12 +420,12 @@ module _ (es : List Event) (k : Each es) (m : Calm (without_turns es)) (none : N
           foreign = λ o.
               let told : owner_in (opens_in (later ++ line ∷ N)) c ≡ q = owner_told (later ++ line ∷ N) q c each_all (owns_map (reverse es) (later ++ line ∷ N) down q c o) in
               let same : q ≡ owner = sym told ∙ owner_then (over_low (opens_in N) c d.0.home over) in
-              clash (eq-eqb q owner same) other;
+              not_both (eq-eqb q owner same) other;
           not_killed = alive_unkilled before q news_here (d.0, d.1, not_dead);
           not_ended = λ e.
               let p : HasPerson IsEnded q N = ⊎_elim (λ t. ended_well_is_ended N q t.0 news_here (before_news (end_ok q t.0) before refl t.1)) (λ t. ended_killed_is_ended N q news_here (before_news (end_killed q) before refl t)) e in
               let same : p.0 ≡ d.0 = one p.0 d.0 q N p.1 d.1 in
-              clash p.2 (ap (λ (z : Person). z.ended) same ∙ not_ended);
+              not_both p.2 (ap (λ (z : Person). z.ended) same ∙ not_ended);
         }
 
     all_doomed : (q : ℕ) → IsDoomed (reverse es) before c q → IsNumber q doomed

@@ -6,7 +6,7 @@ use Rattle.ql_world.specs.World.{catch_at}
 use Rattle.ql_world.specs.declared.world.Catch.{Catch}
 use Rattle.ql_world.specs.Within.{is_over, has_tag, tagged}
 use Rattle.ql_meaning.proofs.Over.{catch_low, catch_older}
-use Rattle.ql_meaning.proofs.LegalLists.{cases, both_true, some_same}
+use Rattle.ql_meaning.proofs.Lists.{cases, both_true, some_same}
 
 pub record Found (cs : List Catch) (d c : ℕ) : Type 0 where
   pub kept : Catch

@@ -7,7 +7,7 @@ use Rattle.ql_world.specs.declared.event.Event.TheVariants.{Spawn as spawn, Open
 use Rattle.ql_world.specs.World.{numbered, change_numbered}
 use Rattle.ql_meaning.specs.Legal.{IsAmong, HasHome, Owns, IsOver, itself, over_enclosing, HasKill, HasEnd}
 use Rattle.ql_meaning.specs.Sane.{protector, is_begun, is_finished, sends, takes, replies}
-use Rattle.ql_meaning.proofs.LegalLists.{cases, apart, or_true, some_same, numbered_pushed, numbered_last, numbered_of_pushed, numbered_changed, numbered_unchanged, numbered_of_changed}
+use Rattle.ql_meaning.proofs.Lists.{cases, apart, or_true, some_same, numbered_pushed, numbered_last, numbered_of_pushed, numbered_changed, numbered_unchanged, numbered_of_changed}
 use Rattle.ql_meaning.proofs.LegalLines.{Person, newborn, with_death, with_end, persons_in, opens_in, over_in, owner_in, Fine}
 use Rattle.ql_meaning.proofs.LegalAmong.{EachNews}
 

@@ -32,7 +32,7 @@ use Rattle.ql_meaning.specs.Context.{Context}
 use Rattle.ql_meaning.specs.Control.{Thread, Closure, finished, cleanups_on, innermost_on, want_of, core_machine}
 use Rattle.ql_meaning.specs.Sane.{base_mark, of_program, Seen, seen, Server, without_turns, outline, FitsBase, Based, marks_of, doing_of, is_unwinding, call_numbers, InProgress, CallsSane, Sane}
 use Rattle.ql_meaning.specs.Sane as saw
-use Rattle.ql_meaning.proofs.LegalLists.{same_number, both_true, or_false, not_true, some_same, numbered_pushed, numbered_mapped, numbered_of_mapped, map_changed, map_unchanged, map_pushed, length_mapped, length_change_numbered}
+use Rattle.ql_meaning.proofs.Lists.{same_number, both_true, or_false, not_true, some_same, numbered_pushed, numbered_mapped, numbered_of_mapped, map_changed, map_unchanged, map_push, map_length, changed_length}
 use Rattle.ql_meaning.proofs.LegalLines.{Person, newborn, with_end, persons_in, opens_in, person_of, opening_of, owner_in, due_from, all_due, Alive, May, Fine, NotDone, spelled_by, Knows}
 use Rattle.ql_meaning.proofs.LegalKills.{owner_is, opens_of_closed, Killing, all_killed, mark_of_killed, spelled_of_killed}
 use Rattle.ql_meaning.proofs.LegalWants.{Finished, is_finished_or, is_of_unwinding, is_of_base, works_for, none_runs, rests_for_call, finished_where}
@@ -74,10 +74,10 @@ module _ (es : List Event) (ps : List (Process Thread)) (cs : List Catch) (k : K
 
   joined : (p home : ℕ) (kind : Kind) (t : Thread) (mode : Mode) → Alive p (without_turns es) → home < length cs → Knows (spawn p (length ps + 1) home mode ∷ es) (ps ++ process_of home kind t ∷ []) cs
   joined p home kind t mode alive low =
-      let all : length (persons_in (without_turns es)) ≡ length ps = ap length k.persons ∙ length_mapped person_of ps in
-      let those : length (opens_in (without_turns es)) ≡ length cs = ap length k.opens ∙ length_mapped opening_of cs in
+      let all : length (persons_in (without_turns es)) ≡ length ps = ap length k.persons ∙ map_length person_of ps in
+      let those : length (opens_in (without_turns es)) ≡ length cs = ap length k.opens ∙ map_length opening_of cs in
       record {
-        persons = ap (λ (z : List Person). z ++ newborn home ∷ []) k.persons ∙ sym (map_pushed person_of ps (process_of home kind t));
+        persons = ap (λ (z : List Person). z ++ newborn home ∷ []) k.persons ∙ sym (map_push person_of ps (process_of home kind t));
         opens = k.opens;
         lines = ((k.calm, alive, omega (arith, all), omega (arith, low, those)), k.lines);
         calm = refl;
@@ -150,7 +150,7 @@ module _ (x : Context) (names : List (List ℕ)) (limits : Limits) (u : World Th
   }
 
   goes_on : (v : World Thread Closure) (a : Answer Closure) → Good v → Good (with_thread v p (m.go q.thread a))
-  goes_on v a h = record { known = changed v.events v.procs v.catches h.known _ p (λ r e. refl); grows = λ c. length_change_numbered _ v.procs p ∙ h.grows c; unmarked = h.unmarked; spelled = h.spelled }
+  goes_on v a h = record { known = changed v.events v.procs v.catches h.known _ p (λ r e. refl); grows = λ c. changed_length _ v.procs p ∙ h.grows c; unmarked = h.unmarked; spelled = h.spelled }
 
   -- and the process goes on
   quietly : (v : World Thread Closure) (a : Answer Closure) → v.events ≡ u.events → v.procs ≡ u.procs → v.catches ≡ u.catches → NotDone v.mark → Good (with_thread v p (m.go q.thread a))
@@ -170,7 +170,7 @@ module _ (x : Context) (names : List (List ℕ)) (limits : Limits) (u : World Th
   after_exit : (c owner : ℕ) → owner_in (map opening_of u.catches) c ≡ owner → May p news
       → Killing c owner u.catches (map person_of u.procs) (length (map person_of u.procs)) (killed_within m (with_event u (exit p c)) c owner).events (killed_within m (with_event u (exit p c)) c owner).procs (killed_within m (with_event u (exit p c)) c owner).catches
   after_exit c owner e may =
-      subst (λ z. Killing c owner u.catches (map person_of u.procs) z (killed_within m (with_event u (exit p c)) c owner).events (killed_within m (with_event u (exit p c)) c owner).procs (killed_within m (with_event u (exit p c)) c owner).catches) (sym (length_mapped person_of u.procs))
+      subst (λ z. Killing c owner u.catches (map person_of u.procs) z (killed_within m (with_event u (exit p c)) c owner).events (killed_within m (with_event u (exit p c)) c owner).procs (killed_within m (with_event u (exit p c)) c owner).catches) (sym (map_length person_of u.procs))
       (all_killed m c owner u.catches (map person_of u.procs) (length u.procs) (with_event u (exit p c)) (record {
         persons = knows.persons;
         opens = knows.opens;
@@ -179,7 +179,7 @@ module _ (x : Context) (names : List (List ℕ)) (limits : Limits) (u : World Th
         left = first_left c owner e;
         rest = refl;
         kept = refl;
-        count = sym (length_mapped person_of u.procs);
+        count = sym (map_length person_of u.procs);
       }))
 
   last_good : want_of x q.thread.control q.thread.frames ≡ ends last_form → Good (last_row m names limits p q u)
@@ -193,7 +193,7 @@ module _ (x : Context) (names : List (List ℕ)) (limits : Limits) (u : World Th
       let alive_now : Alive p (without_turns (killed_within m (with_event u (exit p 0)) 0 p).events) = (person_of q, ap (λ (z : List Person). numbered z p) kill_all.persons ∙ (kill_all.kept ∙ me), subst (λ (z : Person). z.dead ≡ false) (same_person alive) alive.2) in
       goes_on _ _ (record {
         known = ended_well _ _ _ (catch_closed _ _ _ settled_now 0) p None alive_now;
-        grows = λ z. length_change_numbered _ _ p ∙ (kill_all.count ∙ length_mapped person_of u.procs);
+        grows = λ z. changed_length _ _ p ∙ (kill_all.count ∙ map_length person_of u.procs);
         unmarked = subst NotDone (sym (mark_of_killed m (with_event u (exit p 0)) 0 p (length u.procs))) fresh;
         spelled = spelled_of_killed m (with_event u (exit p 0)) 0 p (length u.procs);
       })
@@ -415,7 +415,7 @@ module _ (x : Context) (names : List (List ℕ)) (limits : Limits) (u : World Th
             (λ t. record {
               known = changed _ u.procs u.catches (simply u.events u.procs u.catches knows (take p k c.number) refl
                   (knows.calm, alive_here x u sane knows p q at at_work nf bare works, record { next = omega (arith, next_is); sent = next.1; answered = sym taken })) _ p (λ r h. refl);
-              grows = λ z. length_change_numbered _ u.procs p;
+              grows = λ z. changed_length _ u.procs p;
               unmarked = fresh;
               spelled = refl;
             })
@@ -452,7 +452,7 @@ module _ (x : Context) (names : List (List ℕ)) (limits : Limits) (u : World Th
             let k0 : Knows (reply_line k y c ∷ u.events) (change_numbered (λ r. record r { thread = t }) u.procs p) u.catches = changed _ u.procs u.catches (replied_knows c f) _ p (λ r h. refl) in
             record {
               known = subst (λ (z : List Event). Knows z v.procs v.catches) (sym ev) (subst (λ (z : List (Process Thread)). Knows (reply_line k y c ∷ u.events) z v.catches) (sym ps) (subst (λ (z : List Catch). Knows (reply_line k y c ∷ u.events) (change_numbered (λ r. record r { thread = t }) u.procs p) z) (sym ct) k0));
-              grows = λ z. ap length ps ∙ length_change_numbered _ u.procs p;
+              grows = λ z. ap length ps ∙ changed_length _ u.procs p;
               unmarked = nd;
               spelled = ap spelled_by ev;
             }
@@ -474,7 +474,7 @@ module _ (x : Context) (names : List (List ℕ)) (limits : Limits) (u : World Th
             ) in
             record {
               known = subst (λ (z : List Event). Knows (take s'.process k c'.number ∷ z) v.procs v.catches) (sym ev) (subst (λ (z : List (Process Thread)). Knows (take s'.process k c'.number ∷ (reply_line k y c ∷ u.events)) z v.catches) (sym ps) (subst (λ (z : List Catch). Knows (take s'.process k c'.number ∷ (reply_line k y c ∷ u.events)) (change_numbered (λ r. record r { thread = t }) u.procs p) z) (sym ct) k1));
-              grows = λ z. ap length ps ∙ length_change_numbered _ u.procs p;
+              grows = λ z. ap length ps ∙ changed_length _ u.procs p;
               unmarked = nd;
               spelled = ap spelled_by ev;
             }
@@ -486,7 +486,7 @@ module _ (x : Context) (names : List (List ℕ)) (limits : Limits) (u : World Th
             (λ t. choose (has_cells limits u (length (turn_boxes m names limits p q u s.body))) _ _
             (λ g. turned _ (record s { current = None; turn = next_futures (with_reply m names limits p q u k s c y) (length (m.stored s.body)) }) c s.queue f refl _ refl refl fresh refl refl)
             (λ g. alike _ refl refl refl tt))
-            (λ t. record { known = changed _ u.procs u.catches (replied_knows c f) _ p (λ r h. refl); grows = λ z. length_change_numbered _ u.procs p; unmarked = fresh; spelled = refl })
+            (λ t. record { known = changed _ u.procs u.catches (replied_knows c f) _ p (λ r h. refl); grows = λ z. changed_length _ u.procs p; unmarked = fresh; spelled = refl })
 
     of_server : (f : ℕ → Option (World Thread Closure)) → ((k : ℕ) → q.kind ≡ serving k → AllGood (f k)) → (kind : Kind) → q.kind ≡ kind → AllGood (server_row m names limits p q f kind)
     of_server f h main e = tt
@@ -497,7 +497,7 @@ module _ (x : Context) (names : List (List ℕ)) (limits : Limits) (u : World Th
 
     opens_row : (tag : Word) (waits : Bool) → is_unwinding (doing_of q.thread.control) ≡ false → Good (open_row m names limits p q u tag waits)
     opens_row tag waits works =
-        let those : length (opens_in news) ≡ length u.catches = ap length knows.opens ∙ length_mapped opening_of u.catches in
+        let those : length (opens_in news) ≡ length u.catches = ap length knows.opens ∙ map_length opening_of u.catches in
         goes_on _ _ (record {
           known = record {
             persons = knows.persons;
@@ -513,7 +513,7 @@ module _ (x : Context) (names : List (List ℕ)) (limits : Limits) (u : World Th
     after_throw : (c owner : ℕ) → owner_in (map opening_of u.catches) c ≡ owner → May p news
         → Killing c owner u.catches (map person_of u.procs) (length (map person_of u.procs)) (killed_within m (with_event u (throw p c)) c owner).events (killed_within m (with_event u (throw p c)) c owner).procs (killed_within m (with_event u (throw p c)) c owner).catches
     after_throw c owner e may =
-        subst (λ z. Killing c owner u.catches (map person_of u.procs) z (killed_within m (with_event u (throw p c)) c owner).events (killed_within m (with_event u (throw p c)) c owner).procs (killed_within m (with_event u (throw p c)) c owner).catches) (sym (length_mapped person_of u.procs))
+        subst (λ z. Killing c owner u.catches (map person_of u.procs) z (killed_within m (with_event u (throw p c)) c owner).events (killed_within m (with_event u (throw p c)) c owner).procs (killed_within m (with_event u (throw p c)) c owner).catches) (sym (map_length person_of u.procs))
         (all_killed m c owner u.catches (map person_of u.procs) (length u.procs) (with_event u (throw p c)) (record {
           persons = knows.persons;
           opens = knows.opens;
@@ -522,7 +522,7 @@ module _ (x : Context) (names : List (List ℕ)) (limits : Limits) (u : World Th
           left = first_left c owner e;
           rest = refl;
           kept = refl;
-          count = sym (length_mapped person_of u.procs);
+          count = sym (map_length person_of u.procs);
         }))
 
     exits_row : (c : ℕ) (o : Option Catch) → catch_at u.catches c ≡ o → is_unwinding (doing_of q.thread.control) ≡ false → AllGood (exit_row m names limits p q u c o)
@@ -531,7 +531,7 @@ module _ (x : Context) (names : List (List ℕ)) (limits : Limits) (u : World Th
         let kill_all = after_exit c k.owner (owner_is u.catches c k e) (may_here x u sane knows p q at at_work nf works) in
         goes_on _ _ (record {
           known = catch_closed _ _ _ (settled c k.owner u.catches (map person_of u.procs) _ _ _ kill_all) c;
-          grows = λ z. kill_all.count ∙ length_mapped person_of u.procs;
+          grows = λ z. kill_all.count ∙ map_length person_of u.procs;
           unmarked = subst NotDone (sym (mark_of_killed m (with_event u (exit p c)) c k.owner (length u.procs))) fresh;
           spelled = spelled_of_killed m (with_event u (exit p c)) c k.owner (length u.procs);
         })
@@ -546,7 +546,7 @@ module _ (x : Context) (names : List (List ℕ)) (limits : Limits) (u : World Th
         (λ t. goes_on _ _ after)
         (λ t. record {
           known = changed _ _ _ after.known _ k.owner (owner_same t);
-          grows = λ z. length_change_numbered _ _ k.owner ∙ after.grows z;
+          grows = λ z. changed_length _ _ k.owner ∙ after.grows z;
           unmarked = after.unmarked;
           spelled = after.spelled;
         })
@@ -557,7 +557,7 @@ module _ (x : Context) (names : List (List ℕ)) (limits : Limits) (u : World Th
         after : Good (killed_by_throw c k.owner)
         after = record {
           known = settled c k.owner u.catches (map person_of u.procs) _ _ _ kill_all;
-          grows = λ z. kill_all.count ∙ length_mapped person_of u.procs;
+          grows = λ z. kill_all.count ∙ map_length person_of u.procs;
           unmarked = subst NotDone (sym (mark_of_killed m (with_event u (throw p c)) c k.owner (length u.procs))) fresh;
           spelled = spelled_of_killed m (with_event u (throw p c)) c k.owner (length u.procs);
         }
@@ -581,7 +581,7 @@ module _ (x : Context) (names : List (List ℕ)) (limits : Limits) (u : World Th
         let k0 : Knows (land p c ∷ u.events) u.procs (closed u.catches c) = catch_closed _ _ _ (simply u.events u.procs u.catches knows (land p c) refl (knows.calm, may_land x u sane knows p q at at_work nf c y e)) c in
         goes_on _ _ (choose cleans _ _
         (λ t. record { known = k0; grows = λ z. refl; unmarked = fresh; spelled = refl })
-        (λ t. record { known = changed _ _ _ k0 _ p (aim_same t); grows = λ z. length_change_numbered _ u.procs p; unmarked = fresh; spelled = refl }))
+        (λ t. record { known = changed _ _ _ k0 _ p (aim_same t); grows = λ z. changed_length _ u.procs p; unmarked = fresh; spelled = refl }))
       where
         not_dead : (a : Aim) → landing a c ≡ Some y → is_die a ≡ false
         not_dead free f = absurd cc
@@ -602,13 +602,13 @@ module _ (x : Context) (names : List (List ℕ)) (limits : Limits) (u : World Th
     ends_row (child f) (with_word y) w =
         goes_on _ _ (record {
           known = ended_well u.events u.procs u.catches knows p _ (alive_here x u sane knows p q at at_work nf (bare_here x u sane knows p q at at_work nf (ap is_of_base w)) (works_for x q.thread.control q.thread.frames (ap is_of_unwinding w)));
-          grows = λ z. length_change_numbered _ u.procs p;
+          grows = λ z. changed_length _ u.procs p;
           unmarked = fresh;
           spelled = refl;
         })
     ends_row main (with_word y) w = tt
     ends_row (serving k) (with_word y) w = tt
-    ends_row kind unwound w = goes_on _ _ (record { known = ended_killed u.events u.procs u.catches knows p q at; grows = λ z. length_change_numbered _ u.procs p; unmarked = fresh; spelled = refl })
+    ends_row kind unwound w = goes_on _ _ (record { known = ended_killed u.events u.procs u.catches knows p q at; grows = λ z. changed_length _ u.procs p; unmarked = fresh; spelled = refl })
 
     -- all rows
 

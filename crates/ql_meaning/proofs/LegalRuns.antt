@@ -18,7 +18,7 @@ use Rattle.ql_meaning.specs.Legal.{Legal}
 use Rattle.ql_meaning.specs.CleanupTick.{CleanupTick}
 use Rattle.ql_meaning.specs.Laws.{SaneAlong, JournalsAreLegal, KilledOnlyCleanUp}
 use Rattle.ql_meaning.proofs.Opening.{runs_sane}
-use Rattle.ql_meaning.proofs.LegalLists.{cases, both_true, not_true, some_same}
+use Rattle.ql_meaning.proofs.Lists.{cases, both_true, not_true, some_same}
 use Rattle.ql_meaning.proofs.LegalLines.{NotDone, Knows}
 use Rattle.ql_meaning.proofs.LegalKills.{news_of_tick}
 use Rattle.ql_meaning.proofs.LegalTicks.{mm, SaneFrom, counted_sane, counted_known, step_known, tick_known, opening_known, all_cleaned}

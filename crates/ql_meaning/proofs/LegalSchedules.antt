@@ -15,7 +15,7 @@ use Rattle.ql_meaning.specs.Context.{Context, context_of}
 use Rattle.ql_meaning.specs.Control.{Thread, Closure, core_machine}
 use Rattle.ql_meaning.specs.Meaning.{program_world}
 use Rattle.ql_meaning.specs.Laws.{JournalsSpellTheirSchedules}
-use Rattle.ql_meaning.proofs.LegalLists.{cases, some_same}
+use Rattle.ql_meaning.proofs.Lists.{cases, some_same}
 use Rattle.ql_meaning.proofs.LegalLines.{spelled_by}
 use Rattle.ql_meaning.proofs.LegalTicks.{SaneFrom, tick_known}
 use Rattle.ql_meaning.proofs.LegalRuns.{Told, told_tick, start, sane_along}

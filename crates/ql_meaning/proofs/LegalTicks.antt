@@ -23,7 +23,7 @@ use Rattle.ql_meaning.specs.Control.{Thread, Closure, unwinding, cleanups_on, wa
 use Rattle.ql_meaning.specs.Sane.{without_turns, seen, outline, Seen, protector, is_begun, is_finished, is_unwinding, doing_of, Holds, Stage, waiting, running, IsHeld, SaneOutline, Sane}
 use Rattle.ql_meaning.specs.Sane as saw
 use Rattle.ql_meaning.specs.CleanupTick.{is_of_cleanup, OnlyUnwinds, OnlyCleans, CleanupTick}
-use Rattle.ql_meaning.proofs.LegalLists.{clash, cases, both_true, not_true, some_same, numbered_of_mapped}
+use Rattle.ql_meaning.proofs.Lists.{not_both, cases, both_true, not_true, some_same, numbered_of_mapped}
 use Rattle.ql_meaning.proofs.LegalLines.{persons_in, opens_in, Calm, AllCleaned, NotDone, spelled_by, Knows}
 use Rattle.ql_meaning.proofs.LegalKills.{spelled_of_tick, news_of_tick, each_of_tick}
 use Rattle.ql_meaning.proofs.LegalWants.{Finished, cleanups_same, none_runs, unwinds_where, unwinding_is, is_of_base}
@@ -132,7 +132,7 @@ module _ (x : Context) (names : List (List ℕ)) (limits : Limits) where
       let ku : Knows (counted w p).events (counted w p).procs (counted w p).catches = counted_known w p k in
       let moved : row mm names limits p q (counted w p) (want_of x q.thread.control q.thread.frames) ≡ Some v = rw t at e in
       let good : Good x names limits (counted w p) su ku p q at at_work n v = subst (AllGood x names limits (counted w p) su ku p q at at_work n) moved (all_rows x names limits (counted w p) su ku p q at at_work n (want_of x q.thread.control q.thread.frames) refl) in
-      let not_rests : want_of x q.thread.control q.thread.frames ≡ rests → ⊥ = λ z. clash ready (ap (is_ready mm names limits p q w) z) in
+      let not_rests : want_of x q.thread.control q.thread.frames ≡ rests → ⊥ = λ z. not_both ready (ap (is_ready mm names limits p q w) z) in
       record {
         known = good.known;
         unmarked = good.unmarked;
@@ -140,7 +140,7 @@ module _ (x : Context) (names : List (List ℕ)) (limits : Limits) where
         cleanup = λ d.
             ⊎_elim
             (λ (c : in_cleanup (cleanups_on q.thread.frames) ≡ true).
-            inr (cleans_only w q v (want_of x q.thread.control q.thread.frames) refl (λ b. clash c (ap in_cleanup (bare_here x (counted w p) su ku p q at at_work (unfinished w p q su ku at at_work d) b))) not_rests c (good.grows c)))
+            inr (cleans_only w q v (want_of x q.thread.control q.thread.frames) refl (λ b. not_both c (ap in_cleanup (bare_here x (counted w p) su ku p q at at_work (unfinished w p q su ku at at_work d) b))) not_rests c (good.grows c)))
             (λ (c : in_cleanup (cleanups_on q.thread.frames) ≡ false).
             let none : cleanups_on q.thread.frames ≡ [] = none_runs x _ c in
             inl (unwinds_only q none d (unwinds_where x q.thread.control (unwinds_now w p q su ku at at_work none d)) not_rests))
@@ -151,7 +151,7 @@ module _ (x : Context) (names : List (List ℕ)) (limits : Limits) where
     where
       -- a process that is to end is not after its last top form
       unfinished : (w : World Thread Closure) (p : ℕ) (q : Process Thread) (su : Sane (counted w p)) (ku : Knows (counted w p).events w.procs w.catches) (at : numbered w.procs p ≡ Some q) (at_work : q.ended ≡ false) → q.aim ≡ die → Finished q.thread.control → ⊥
-      unfinished w p q su ku at at_work d f = clash (finished_free x (counted w p) su ku p q at at_work f) (ap is_free d)
+      unfinished w p q su ku at at_work d f = not_both (finished_free x (counted w p) su ku p q at at_work f) (ap is_free d)
 
       unwinds_now : (w : World Thread Closure) (p : ℕ) (q : Process Thread) (su : Sane (counted w p)) (ku : Knows (counted w p).events w.procs w.catches) (at : numbered w.procs p ≡ Some q) (at_work : q.ended ≡ false) → cleanups_on q.thread.frames ≡ [] → q.aim ≡ die → is_unwinding (doing_of q.thread.control) ≡ true
       unwinds_now w p q su ku at at_work none d =
