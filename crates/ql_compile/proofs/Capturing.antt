@@ -6,19 +6,12 @@ use Rattle.std.proofs.Math.Seq.{take-append_seam, drop-length}
 use Rattle.std.proofs.Math.Bool.{beq}
 use Rattle.std.proofs.lemmas.List.{map-append, take-append-drop, length-drop, reverse-append, reverse-reverse}
 use Rattle.std.proofs.lemmas.Result.{on_ok_weaker}
-use Rattle.ql_base.specs.declared.numbers.Offset.{Offset}
-use Rattle.ql_expand.specs.Core as spec
-use Rattle.ql_expand.specs.Core.{Name, named, hidden, Binder, defvar}
-use Rattle.ql_expand.specs.View.{core_of, node_of, node_step, bound_step, core_step}
-use Rattle.ql_expand.specs.declared.core_form.Core.{Core}
-use Rattle.ql_expand.specs.declared.core_form.Node.{fold-roll-Node}
-use Rattle.ql_expand.specs.declared.core_form.Node.TheOpen.{Node-F}
-use Rattle.ql_expand.specs.declared.core_form.Node.TheViews as view
+use Rattle.ql_expand.specs.Core.{Name, named, hidden, Binder}
 use Rattle.ql_compile.proofs.Cases.{or_assoc, or_false}
 use Rattle.ql_meaning.specs.Context.{same_name, name_of}
 use Rattle.ql_compile.specs.Compile.{Scope, is_name_among, without, without_all, caught, caught_slots}
 use Rattle.ql_compile.specs.declared.captured.Taken.{Taken}
-use Rattle.ql_compile.specs.Free.{caught_of, named_by, with_name, with_names, Gathered, Gathers}
+use Rattle.ql_compile.specs.Free.{caught_of, named_by, with_name, with_names, Gathered, Finds}
 use Rattle.ql_compile.specs.declared.names.Key.{Key}
 use Rattle.ql_compile.proofs.Cases.{cases}
 use Rattle.ql_compile.proofs.Scopes.{name_same, binds_name}
@@ -105,14 +98,14 @@ back bs xs = subst (λ zs. take (length xs) (with_names zs bs) ≡ xs) (append-n
 
 -- Stretches of a walk.
 
-pub gathers_nothing : (a : Gathered) → Gathers a a []
+pub gathers_nothing : (a : Gathered) → Finds a a []
 gathers_nothing a = record { bound = refl; found = λ x. none (is_name_among x a.found) (is_name_among x a.bound) }
   where
     none : (f b : Bool) → f ≡ (f || (not b && false))
     none true b = refl
     none false b = sym (and_false (not b))
 
-pub gathers_then : (a b c : Gathered) (xs ys : List Name) → Gathers a b xs → Gathers b c ys → Gathers a c (xs ++ ys)
+pub gathers_then : (a b c : Gathered) (xs ys : List Name) → Finds a b xs → Finds b c ys → Finds a c (xs ++ ys)
 gathers_then a b c xs ys h k = record {
   bound = k.bound ∙ h.bound;
   found = λ x.
@@ -128,12 +121,12 @@ gathers_then a b c xs ys h k = record {
     two false true m n = refl
     two false false m n = refl
 
-pub then_more : {T E : Type 0} (r : Result T E) (a b c : Gathered) (xs ys : List Name) → Gathers a b xs → OnOk r (Gathers b c ys) → OnOk r (Gathers a c (xs ++ ys))
-then_more r a b c xs ys h k = on_ok_weaker r (λ (z : Gathers b c ys). gathers_then a b c xs ys h z) k
+pub then_more : {T E : Type 0} (r : Result T E) (a b c : Gathered) (xs ys : List Name) → Finds a b xs → OnOk r (Finds b c ys) → OnOk r (Finds a c (xs ++ ys))
+then_more r a b c xs ys h k = on_ok_weaker r (λ (z : Finds b c ys). gathers_then a b c xs ys h z) k
 
 -- A body under binders.
-pub under_binders : (bs : List Binder) (xs : List Name) (a b c d : Gathered) → b.bound ≡ with_names a.bound bs → b.found ≡ a.found → Gathers b c xs
-    → d ≡ record c { bound = take (length a.bound) c.bound } → Gathers a d (without_all bs xs)
+pub under_binders : (bs : List Binder) (xs : List Name) (a b c d : Gathered) → b.bound ≡ with_names a.bound bs → b.found ≡ a.found → Finds b c xs
+    → d ≡ record c { bound = take (length a.bound) c.bound } → Finds a d (without_all bs xs)
 under_binders bs xs a b c d bound found h left = record {
   bound = ap (λ g. g.bound) left ∙ (ap (take (length a.bound)) (h.bound ∙ bound) ∙ back bs a.bound);
   found = λ x.
@@ -150,16 +143,8 @@ under_binders bs xs a b c d bound found h left = record {
     apart true t r = refl
     apart false t r = refl
 
--- A use of a name that is bound, and of one that isn't.
-pub used_bound : (a : Gathered) (y : Name) → is_name_among y a.bound ≡ true → Gathers a a (y ∷ [])
-used_bound a y h = record { bound = refl; found = λ x. by (is_name_among x a.found) (is_name_among x a.bound) (same_name x y) (λ e. ap (λ z. is_name_among z a.bound) (name_same x y e) ∙ h) }
-  where
-    by : (f b s : Bool) → (s ≡ true → b ≡ true) → f ≡ (f || (not b && (s || false)))
-    by true b s k = refl
-    by false b true k = rw (k refl) refl
-    by false b false k = sym (and_false (not b))
-
-pub used_free : (a b : Gathered) (y : Name) → is_name_among y a.bound ≡ false → b.bound ≡ a.bound → b.found ≡ with_name a.found y → Gathers a b (y ∷ [])
+-- A use of a name that isn't bound.
+pub used_free : (a b : Gathered) (y : Name) → is_name_among y a.bound ≡ false → b.bound ≡ a.bound → b.found ≡ with_name a.found y → Finds a b (y ∷ [])
 used_free a b y h bound found = record {
   bound = bound;
   found = λ x. ap (is_name_among x) found ∙ (among_with_name a.found y x ∙ (ap (λ t. is_name_among x a.found || t) (name_sym y x)
@@ -169,11 +154,6 @@ used_free a b y h bound found = record {
     by : (b s : Bool) → (s ≡ true → b ≡ false) → s ≡ (not b && (s || false))
     by b true k = rw (k refl) refl
     by b false k = sym (and_false (not b))
-
--- At the end of a walk that began with nothing.
-pub from_nothing : (a b : Gathered) (xs : List Name) → a.bound ≡ [] → a.found ≡ [] → Gathers a b xs → (x : Name) → is_name_among x b.found ≡ is_name_among x xs
-from_nothing a b xs bound found h x =
-    h.found x ∙ (ap (λ f. is_name_among x f || (not (is_name_among x a.bound) && is_name_among x xs)) found ∙ ap (λ u. not (is_name_among x u) && is_name_among x xs) bound)
 
 pub map_take : {X Y : Type 0} (f : X → Y) (n : ℕ) (xs : List X) → map f (take n xs) ≡ take n (map f xs)
 map_take f zero xs = refl
@@ -315,10 +295,6 @@ pushed_all [] sc = refl
 pushed_all (c ∷ cs) sc =
     pushed_all cs (Some c.1 ∷ sc) ∙ (sym (append_assoc (map (λ c. Some c.1) (reverse cs)) (Some c.1 ∷ []) sc)
     ∙ ap (λ l. l ++ sc) (sym (map-append (λ (c : ℕ × (Name × Bool)). Some c.1) (reverse cs) (c ∷ [])) ∙ ap (map (λ c. Some c.1)) (sym (reverse-append (c ∷ []) cs))))
-
-pub defvar_is : (n : ℕ) (at : Offset) (c : Core) → node_of (view.Defvar n at c) ≡ defvar n at.0 (core_of c)
-unfolding Rattle.ql_expand.specs.declared.core_form.Node.TheViews.roll-Node denote.Hole.Carrier.roll
-defvar_is n at c = fold-roll-Node spec.Node (spec.Binder × spec.Core) spec.Core node_step bound_step core_step (Node-F.Defvar n at c)
 
 pub nothing_lowest : (sc : Scope) (n : ℕ) → n ≡ 0 → lowest n sc ≡ []
 nothing_lowest sc n h = let all : length sc - n ≡ length sc = omega (arith, h) in ap (λ i. drop i sc) all ∙ drop-length sc

@@ -1,5 +1,5 @@
 -- Worked programs: the code of each tells what the program means. Listings. And programs that can't be compiled.
-use Rattle.std.proofs.Common.{◌≡◌, [], ◌∷◌, refl}
+use Rattle.std.proofs.Common.{◌≡◌, ◌∙◌, [], ◌∷◌, Bool, refl, sym}
 use Rattle.std.specs.Prelude.{pos, true, false, codes}
 use Rattle.std.specs.Fmt.{digits}
 use Rattle.ql_base.specs.Names.{reserved}
@@ -10,6 +10,8 @@ use Rattle.ql_meaning.specs.Worked.{Worked, IsTold, sum_printed, nothing_at_all,
 use Rattle.ql_code.specs.Machine.{code_told}
 use Rattle.ql_code.specs.Listing.{listing}
 use Rattle.ql_compile.specs.Compile.{compiled}
+use Rattle.ql_scope.specs.Compilable as scope
+use Rattle.ql_compile.proofs.Allowed.{can_be_compiled}
 use Rattle.ql_compile.proofs.Compilable.{is_compilable}
 
 abbrev IsCompilable : Worked → Type 0
@@ -339,26 +341,34 @@ child_listed : listing reserved (compiled one_child) ≡ codes "0 lit t @6\n1 ql
 unfolding digits
 child_listed = refl
 
+-- What the proofs take apart and refuse, the premise of the laws refuses.
+refused : (p : Program) → is_compilable p ≡ false → scope.is_compilable p ≡ false
+refused p e = by (scope.is_compilable p) refl
+  where
+    by : (b : Bool) → scope.is_compilable p ≡ b → b ≡ false
+    by true h = let k : true ≡ false = sym (can_be_compiled p h) ∙ e in absurd cc
+    by false h = refl
+
 -- (print x)
-unbound_refused : is_compilable (program [] [] (and_core (core 0 (print (core 7 (variable (named 37))))) no_cores)) ≡ false
-unbound_refused = refl
+unbound_refused : scope.is_compilable (program [] [] (and_core (core 0 (print (core 7 (variable (named 37))))) no_cores)) ≡ false
+unbound_refused = refused (program [] [] (and_core (core 0 (print (core 7 (variable (named 37))))) no_cores)) refl
 
 -- (setq x 1)
-unbound_set_refused : is_compilable (program [] [] (and_core (core 0 (setq (named 37) 6 (core 8 (constant (atom 8 (form.integer (pos 1))))))) no_cores)) ≡ false
-unbound_set_refused = refl
+unbound_set_refused : scope.is_compilable (program [] [] (and_core (core 0 (setq (named 37) 6 (core 8 (constant (atom 8 (form.integer (pos 1))))))) no_cores)) ≡ false
+unbound_set_refused = refused (program [] [] (and_core (core 0 (setq (named 37) 6 (core 8 (constant (atom 8 (form.integer (pos 1))))))) no_cores)) refl
 
 -- (f)
-no_function_refused : is_compilable (program [] [] (and_core (core 0 (call 37 1 no_cores)) no_cores)) ≡ false
-no_function_refused = refl
+no_function_refused : scope.is_compilable (program [] [] (and_core (core 0 (call 37 1 no_cores)) no_cores)) ≡ false
+no_function_refused = refused (program [] [] (and_core (core 0 (call 37 1 no_cores)) no_cores)) refl
 
 -- (defun f (x) x) (f)
-wrong_count_refused : is_compilable (program (function 0 37 7 (binder 10 (named 38) ∷ []) (core 13 (variable (named 38))) ∷ []) [] (and_core (core 16 (call 37 17 no_cores)) no_cores)) ≡ false
-wrong_count_refused = refl
+wrong_count_refused : scope.is_compilable (program (function 0 37 7 (binder 10 (named 38) ∷ []) (core 13 (variable (named 38))) ∷ []) [] (and_core (core 16 (call 37 17 no_cores)) no_cores)) ≡ false
+wrong_count_refused = refused (program (function 0 37 7 (binder 10 (named 38) ∷ []) (core 13 (variable (named 38))) ∷ []) [] (and_core (core 16 (call 37 17 no_cores)) no_cores)) refl
 
 -- (defun f () (g)), where only the body is wrong
-body_refused : is_compilable (program (function 0 37 7 [] (core 13 (call 38 14 no_cores)) ∷ []) [] no_cores) ≡ false
-body_refused = refl
+body_refused : scope.is_compilable (program (function 0 37 7 [] (core 13 (call 38 14 no_cores)) ∷ []) [] no_cores) ≡ false
+body_refused = refused (program (function 0 37 7 [] (core 13 (call 38 14 no_cores)) ∷ []) [] no_cores) refl
 
 -- (car)
-no_operand_refused : is_compilable (program [] [] (and_core (core 0 (primitive 20 no_cores)) no_cores)) ≡ false
-no_operand_refused = refl
+no_operand_refused : scope.is_compilable (program [] [] (and_core (core 0 (primitive 20 no_cores)) no_cores)) ≡ false
+no_operand_refused = refused (program [] [] (and_core (core 0 (primitive 20 no_cores)) no_cores)) refl

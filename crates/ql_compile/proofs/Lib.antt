@@ -24,7 +24,6 @@ mod Goes
 mod Instructions
 mod Linked
 mod Measuring
-mod Nodes
 mod Noted
 mod ProgramIsFine
 mod Quoting

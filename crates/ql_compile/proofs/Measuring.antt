@@ -20,7 +20,7 @@ use Rattle.ql_compile.specs.Measure.{counted, offsets_of, offsets_of_cores, offs
 use Rattle.ql_compile.specs.declared.measure.Meter.{Meter}
 use Rattle.ql_compile.proofs.Sizes.{long}
 
--- ---- counting
+-- Counting.
 
 pub counted_append : (m : Meter) (xs ys : List ℕ) → counted m (xs ++ ys) ≡ counted (counted m xs) ys
 counted_append m [] ys = refl
@@ -71,7 +71,7 @@ over_is m (at ∷ os) zero e h =
 over_is m (at ∷ os) (suc room) e h =
     ap (λ k. (counted k os).over) (one_within m at (omega arith)) ∙ over_is (record m { count = m.count + 1 }) os room e (omega arith)
 
--- ---- the instructions of the code
+-- The instructions of the code.
 
 abbrev pub ats : List Instruction → List ℕ
 ats is = map (λ i. i.at) is
@@ -170,7 +170,7 @@ instructions_long [] os e = refl
 instructions_long (op ∷ ops) [] e = absurd (omega (arith, e))
 instructions_long (op ∷ ops) (o ∷ os) e = let rest = instructions_long ops os (omega (arith, e)) in omega (arith, rest)
 
--- ---- where functions begin
+-- Where functions begin.
 
 -- These places, with those of the functions that are left, are all.
 pub record Going (m : Meter) (fs : List Function) (places whole : List ℕ) : Type 0 where
@@ -199,7 +199,7 @@ functions_next m n k at l o ps c fs old new whole e f pushed g =
           ∙ (append_assoc old (m.count ∷ []) (map (λ (q : Function × ℕ). q.1) (places_from (m.count + (size c + 1)) fs)) ∙ g.all));
     }
 
--- ---- the whole program
+-- The whole program.
 
 -- All steps count the instructions of the program.
 pub whole_counted : (m a b c : Meter) (fs : List Function) (globals : List ℕ) (cs : Cores)

@@ -73,9 +73,6 @@ mutual
       paired ps (quoted f ps).1 (quoted_items fs t (quoted f ps).0) (length (quoted f ps).0) b.longer a.word
       (record { all = b.all; longer = (let m = a.longer in let n = b.longer in omega (arith, m, n)); word = b.word })
 
-AreWords : ℕ → List (ℕ × Word) → Type 0
-AreWords n qs = (at : ℕ) → is_constant n (word_at qs at) ≡ true
-
 record QuotesAre (ps : Pairs) (q : Quotes) : Type 0 where
   all : are_constant 0 q.0 ≡ true
   longer : length ps ≤ length q.0

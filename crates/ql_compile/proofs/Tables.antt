@@ -47,7 +47,7 @@ named_is x (p ∷ ps) (f ∷ fs) n e =
     ∙ (ap (λ q. if is_called n q then Some (entry_of x p) else option_map (entry_of x) (place_called ps n)) (sym here)
     ∙ sym (mapped_if (entry_of x) (is_called n p.0) p (place_called ps n)))
 
--- ---- entries in order
+-- Entries in order.
 
 pub placed : (pc : ℕ) (fs : List core.Function) → with_places fs (map (λ (p : core.Function × ℕ). p.1) (places_from pc fs)) ≡ places_from pc fs
 placed pc [] = refl

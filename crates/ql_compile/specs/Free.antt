@@ -21,7 +21,7 @@ pub record Gathered : Type 0 where
   pub found : List Name
 
 -- Over a stretch of a walk those of these names are found that aren't bound, and the bound ones stay.
-pub record Gathers (old new : Gathered) (names : List Name) : Type 0 where
+pub record Finds (old new : Gathered) (names : List Name) : Type 0 where
   pub bound : new.bound ≡ old.bound
   pub found : (x : Name) → is_name_among x new.found ≡ (is_name_among x old.found || (not (is_name_among x old.bound) && is_name_among x names))
 

@@ -10,6 +10,7 @@ ghost use Rattle.ql_compile.specs.Free.{caught_of};
 use crate::frame::Frame;
 use crate::free::free_names;
 use crate::names::Names;
+use crate::number::number;
 use ql_expand::core_form::{Binder, Core, VarName};
 use ql_scope::scoped::Scoped;
 use sqlite_items::Items;
@@ -68,21 +69,11 @@ fn take_named(alloc: Global, frame: &Frame, mut names: Names) -> Result<Vec<Take
             continue;
         };
         if names.remove(name) {
-            let slot = slot_number(at)?;
+            let slot = number(at)?;
             taken.push(Taken { slot, name, stored })?;
         }
     }
     Ok(taken)
-}
-
-// The number of a slot. A frame whose slots have no such numbers is answered as want of memory.
-fn slot_number(at: usize) -> Result<u32, AllocError>
-    ensures { IfOk result (λ slot. slot ≡ at) }
-{
-    match u32::try_from(at) {
-        Ok(slot) => Ok(slot),
-        Err(_) => Err(AllocError),
-    }
 }
 
 // The slots of captured variables.

@@ -13,6 +13,7 @@ use crate::captured::mask;
 use crate::emit::{Emitted, emit};
 use crate::laws::{code_follows_program, compiled_code_is_valid};
 use crate::measure::measure;
+use crate::number::number;
 use crate::quotes::Quotes;
 use ql_code::code::{Code, FunEntry};
 use ql_expand::core_form::Function;
@@ -61,10 +62,7 @@ fn code_of(alloc: Global, scoped: &Scoped, places: &[u32]) -> Result<Code, Alloc
     let entries = entries_of(alloc, scoped, places)?;
     let quotes = Quotes::new(alloc, scoped.program())?;
     let Emitted { ops, offsets } = emit(alloc, scoped, entries.as_slice(), &quotes)?;
-    let globals = match u32::try_from(scoped.program().globals.len()) {
-        Ok(globals) => globals,
-        Err(_) => return Err(AllocError),
-    };
+    let globals = number(scoped.program().globals.len())?;
     let Quotes { pairs, .. } = quotes;
     Ok(Code::new(ops, offsets, pairs, entries, globals))
 }
@@ -87,9 +85,7 @@ fn entry_of(scoped: &Scoped, function: &Function, place: u32) -> Result<FunEntry
     ensures { IfOk result (λ entry. entry ≡ entry_of (context_of (program_of scoped.now.program)) (function_of function.now, place)) }
 {
     let params = function.params.as_slice();
-    let Ok(count) = u32::try_from(params.len()) else {
-        return Err(AllocError);
-    };
+    let count = number(params.len())?;
     let mask = mask(scoped, params)?;
     Ok(FunEntry {
         place,

@@ -1,7 +1,7 @@
 //! The instructions of a program, one after another.
 //!
-//! An instruction that leads on to a place which isn't known yet leaves a hole, an instruction of no meaning. The hole
-//! is filled as soon as that place is reached.
+//! An instruction that leads on to a place which isn't known yet leaves a hole, an `end` that stands for what comes
+//! later. The hole is filled as soon as that place is reached.
 
 ghost use Rattle.std.specs.Prelude.{◌≡◌, ◌+◌, ◌++◌, ◌∷◌, [], None, List, length, IfOk, OnOk, map};
 ghost use Rattle.ql_expand.specs.ProgramView.{program_of};
@@ -19,7 +19,8 @@ ghost use Rattle.ql_compile.specs.Emitting.{Binds, Closes, Emits, Gathers, calle
 use crate::captured::{Captured, capture, mask, push_variables};
 use crate::frame::Frame;
 use crate::lookup::{Lookup, primitive};
-use crate::output::{Output, number};
+use crate::number::number;
+use crate::output::Output;
 use crate::quotes::Quotes;
 use ql_base::numbers::Offset;
 use ql_base::reserved::Reserved;

@@ -6,6 +6,7 @@ ghost use Rattle.ql_expand.specs.View.{name_of};
 ghost use Rattle.ql_compile.specs.Compile.{Scope, find_in};
 ghost use Rattle.ql_compile.specs.Slots.{key_of, place_at, variable_of};
 
+use crate::number::number;
 use indexmap::IndexMap;
 use ql_expand::core_form::VarName;
 use sqlite_items::at as item_at;
@@ -94,10 +95,7 @@ impl Frame {
     pub fn push_variable(&mut self, name: VarName, stored: bool) -> Result<(), AllocError>
         ensures { OnOk result (self.new ≡ Some (name_of name, stored) ∷ self.old) }
     {
-        let slot = match u32::try_from(self.rows.len()) {
-            Ok(slot) => slot,
-            Err(_) => return Err(AllocError),
-        };
+        let slot = number(self.len())?;
         let key = key_of(name);
         self.rows.push(Row {
             variable: Some((name, stored)),

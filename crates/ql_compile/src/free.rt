@@ -5,7 +5,7 @@ ghost use Rattle.ql_expand.specs.Core.{Name};
 ghost use Rattle.ql_expand.specs.View.{binders_of, bounds_of, core_of, cores_of, name_of, node_of};
 ghost use Rattle.ql_scope.specs.Scope.{binders_in};
 ghost use Rattle.ql_compile.specs.Compile.{free, free_in_cores, free_in_node, free_in_values, is_name_among, without_all};
-ghost use Rattle.ql_compile.specs.Free.{Gathers, with_names};
+ghost use Rattle.ql_compile.specs.Free.{Finds, with_names};
 
 use crate::names::Names;
 use ql_expand::core_form::{Binder, Bound, Core, Node, VarName};
@@ -48,14 +48,14 @@ impl Model for Walk {
 impl Walk {
     #[cycle(free)]
     fn core(&mut self, core: &Core) -> Result<(), AllocError>
-        ensures { OnOk result (Gathers self.old self.new (free (core_of core.now))) }
+        ensures { OnOk result (Finds self.old self.new (free (core_of core.now))) }
     {
         self.node(&core.node)
     }
 
     #[cycle(free)]
     fn node(&mut self, node: &Node) -> Result<(), AllocError>
-        ensures { OnOk result (Gathers self.old self.new (free_in_node (node_of node.now))) }
+        ensures { OnOk result (Finds self.old self.new (free_in_node (node_of node.now))) }
     {
         match node {
             Node::Const(_) => Ok(()),
@@ -116,7 +116,7 @@ impl Walk {
 
     #[cycle(free)]
     fn cores(&mut self, cores: &[Core]) -> Result<(), AllocError>
-        ensures { OnOk result (Gathers self.old self.new (free_in_cores (cores_of cores.now))) }
+        ensures { OnOk result (Finds self.old self.new (free_in_cores (cores_of cores.now))) }
     {
         for core in cores {
             self.core(core)?;
@@ -127,7 +127,7 @@ impl Walk {
     // The values of bindings, which don't see the variables.
     #[cycle(free)]
     fn values(&mut self, binds: &[Bound]) -> Result<(), AllocError>
-        ensures { OnOk result (Gathers self.old self.new (free_in_values (bounds_of binds.now))) }
+        ensures { OnOk result (Finds self.old self.new (free_in_values (bounds_of binds.now))) }
     {
         for bound in binds {
             self.core(&bound.value)?;
@@ -138,7 +138,7 @@ impl Walk {
     // A body under the variables of bindings.
     #[cycle(free)]
     fn under_variables(&mut self, body: &Core, binds: &[Bound]) -> Result<(), AllocError>
-        ensures { OnOk result (Gathers self.old self.new (without_all (binders_in (bounds_of binds.now)) (free (core_of body.now)))) }
+        ensures { OnOk result (Finds self.old self.new (without_all (binders_in (bounds_of binds.now)) (free (core_of body.now)))) }
     {
         let outer = self.count();
         self.bind_variables(binds)?;
@@ -150,7 +150,7 @@ impl Walk {
     // A body under parameters.
     #[cycle(free)]
     fn under_params(&mut self, body: &Core, params: &[Binder]) -> Result<(), AllocError>
-        ensures { OnOk result (Gathers self.old self.new (without_all (binders_of params.now) (free (core_of body.now)))) }
+        ensures { OnOk result (Finds self.old self.new (without_all (binders_of params.now) (free (core_of body.now)))) }
     {
         let outer = self.count();
         self.bind_params(params)?;
@@ -195,7 +195,7 @@ impl Walk {
 
     // A use of a variable.
     fn used(&mut self, name: VarName) -> Result<(), AllocError>
-        ensures { OnOk result (Gathers self.old self.new (name_of name ∷ [])) }
+        ensures { OnOk result (Finds self.old self.new (name_of name ∷ [])) }
     {
         if !self.bound.contains(name) {
             self.found.insert(name)?;

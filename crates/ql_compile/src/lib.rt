@@ -10,6 +10,7 @@ pub mod laws;
 mod lookup;
 mod measure;
 mod names;
+mod number;
 mod output;
 mod quotes;
 mod table;

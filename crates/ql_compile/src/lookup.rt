@@ -9,7 +9,7 @@ ghost use Rattle.ql_compile.specs.Compile.{call_op, entry_of, find_in, place_cal
 ghost use Rattle.ql_compile.specs.Emission.{HasFunctions, HasGlobals, HasWords, global_of};
 
 use crate::frame::Frame;
-use crate::output::number;
+use crate::number::number;
 use crate::quotes::Quotes;
 use crate::table::{functions_by_name, globals_by_name};
 use ql_base::reserved::Reserved;

@@ -1,6 +1,6 @@
 //! Instructions that are added one after another, and that may be changed later.
 
-ghost use Rattle.std.specs.Prelude.{◌≡◌, ◌<◌, ◌++◌, ◌∷◌, [], List, IfOk, OnErr, OnOk, length, slice_set};
+ghost use Rattle.std.specs.Prelude.{◌≡◌, ◌<◌, ◌++◌, ◌∷◌, [], List, OnErr, OnOk, length, slice_set};
 ghost use Rattle.ql_code.specs.Code.{Instruction, instruction, instructions_of};
 
 use ql_base::numbers::Offset;
@@ -90,15 +90,4 @@ fn put<T: Drop>(items: &mut Vec<T>, at: usize, item: T)
     ensures { items.new.items ≡ slice_set items.old.items at item }
 {
     items[at] = item;
-}
-
-/// A place, a slot or a count. One that doesn't fit is answered as want of memory: a program whose code is short enough
-/// has none.
-pub fn number(n: usize) -> Result<u32, AllocError>
-    ensures { IfOk result (λ m. m ≡ n) }
-{
-    match u32::try_from(n) {
-        Ok(m) => Ok(m),
-        Err(_) => Err(AllocError),
-    }
 }

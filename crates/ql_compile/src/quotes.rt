@@ -11,7 +11,9 @@ ghost use Rattle.ql_compile.specs.Emission.{HasWords};
 ghost use Rattle.ql_compile.specs.Quoting.{AddsData, AddsWord, data_at};
 ghost use Rattle.ql_world.specs.Text.{AreOrdered};
 
+use crate::number::number;
 use indexmap::IndexMap;
+use ql_base::reserved::Reserved;
 use ql_expand::core_form::{Bound, Constant, Core, Function, Node};
 use ql_expand::program::Program;
 use ql_forms::form::{Atom, Form};
@@ -71,7 +73,7 @@ impl Quotes {
     {
         match self.words.get(&at) {
             Some(word) => *word,
-            None => NIL,
+            None => Word::Sym(Reserved::Nil.number()),
         }
     }
 
@@ -84,9 +86,6 @@ impl Quotes {
         keep_first(&mut self.words, form.offset().0, word)
     }
 }
-
-// Nil is the first of the reserved words.
-const NIL: Word = Word::Sym(0);
 
 // Keeps the word of the datum at this offset, unless one is known.
 fn keep_first(words: &mut IndexMap<u64, Word>, at: u64, word: Word) -> Result<(), AllocError>
@@ -115,7 +114,7 @@ fn tail_word(tail: Option<Atom>) -> Word
 {
     match tail {
         Some(atom) => atom_word(atom),
-        None => NIL,
+        None => Word::Sym(Reserved::Nil.number()),
     }
 }
 
@@ -158,11 +157,9 @@ fn put_pair(pairs: &mut Vec<(Word, Word)>, first: Word, rest: Word) -> Result<Wo
     ensures { IfOk result (λ w. (pairs.new.items, w) ≡ with_pair first (pairs.old.items, rest)) }
 {
     // More pairs than numbers are more than there is memory for.
-    let Ok(number) = u32::try_from(pairs.len()) else {
-        return Err(AllocError);
-    };
+    let pair = number(pairs.len())?;
     pairs.push((first, rest))?;
-    Ok(Word::Pair(number))
+    Ok(Word::Pair(pair))
 }
 
 // The data of a program that are lists, in the order of the source.

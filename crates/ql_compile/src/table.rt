@@ -6,6 +6,7 @@ ghost use Rattle.ql_meaning.specs.Context.{Context};
 ghost use Rattle.ql_compile.specs.Compile.{Places, entry_of};
 ghost use Rattle.ql_compile.specs.Emission.{HasFunctions, HasGlobals};
 
+use crate::number::number;
 use ql_code::code::FunEntry;
 use ql_expand::core_form::Function;
 use ql_scope::table::put;
@@ -42,9 +43,7 @@ pub fn globals_by_name(
     let mut rest = globals.len();
     while rest > 0 {
         rest -= 1;
-        let Ok(place) = u32::try_from(rest) else {
-            return Err(AllocError);
-        };
+        let place = number(rest)?;
         put(&mut table, globals[rest], place)?;
     }
     Ok(table)

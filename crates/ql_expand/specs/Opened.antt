@@ -3,7 +3,7 @@ use Rattle.std.specs.Prelude.{◌≡◌, ℕ, Bool, List}
 use Rattle.ql_base.specs.declared.numbers.Offset.{Offset}
 use Rattle.ql_expand.specs.View.{core_of, node_of, cores_of, bounds_of, bound_of, binder_of, binders_of, constant_of, name_of, node_step, bound_step, core_step}
 use Rattle.ql_expand.specs.Core as spec
-use Rattle.ql_expand.specs.Core.{core, constant, setq, conditional, binding, primitive, print, call, funcall, qlet, qlambda, catch, qcatch, throw, protect}
+use Rattle.ql_expand.specs.Core.{core, constant, setq, conditional, binding, primitive, print, call, funcall, qlet, qlambda, catch, qcatch, throw, protect, defvar}
 use Rattle.ql_expand.specs.declared.core_form.VarName.{VarName}
 use Rattle.ql_expand.specs.declared.core_form.Constant.{Constant}
 use Rattle.ql_expand.specs.declared.core_form.Binder.{Binder}
@@ -76,3 +76,7 @@ throw_is a b = fold-roll-Node spec.Node (spec.Binder × spec.Core) spec.Core nod
 pub protect_is : (a b : Core) → node_of (view.Protect a b) ≡ protect (core_of a) (core_of b)
 unfolding Rattle.ql_expand.specs.declared.core_form.Node.TheViews.roll-Node denote.Hole.Carrier.roll
 protect_is a b = fold-roll-Node spec.Node (spec.Binder × spec.Core) spec.Core node_step bound_step core_step (Node-F.Protect a b)
+
+pub defvar_is : (n : ℕ) (at : Offset) (c : Core) → node_of (view.Defvar n at c) ≡ defvar n at.0 (core_of c)
+unfolding Rattle.ql_expand.specs.declared.core_form.Node.TheViews.roll-Node denote.Hole.Carrier.roll
+defvar_is n at c = fold-roll-Node spec.Node (spec.Binder × spec.Core) spec.Core node_step bound_step core_step (Node-F.Defvar n at c)

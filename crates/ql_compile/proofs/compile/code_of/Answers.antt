@@ -23,11 +23,11 @@ new-requires-2-clause-sound c =
     let s = c.args.scoped.now in
     let p = program_of s.program in
     let e = c.in_ok-ops.field-0 in
-    let globals : c.in-Ok.globals ≡ length (globals_of p) = c.in-Ok.ensures.1 ∙ (c.len.ensures ∙ ap (λ q. length q.globals) c.program-2.ensures) in
+    let globals : c.in_ok-globals.globals ≡ length (globals_of p) = c.in_ok-globals.ensures ∙ (c.len.ensures ∙ ap (λ q. length q.globals) c.program-2.ensures) in
     let pairs = rw c.program.ensures at c.in_ok-quotes.ensures.pairs in
     let instructions = c.in_ok-ops.ensures.instructions in
     let entries = c.in_ok-entries.ensures in
-    let is : code.code_of e.ops.items e.offsets.items c.in_ok-quotes.quotes.pairs.items c.in_ok-entries.entries.items c.in-Ok.globals ≡ compiled p =
+    let is : code.code_of e.ops.items e.offsets.items c.in_ok-quotes.quotes.pairs.items c.in_ok-entries.entries.items c.in_ok-globals.globals ≡ compiled p =
     λ i. record { instructions = instructions i; quoted = pairs i; entries = entries i; globals = globals i } in
     ∥∥₁_map s.scoped (λ (h : HasScope p s.program.names s.stored.keys).
     let right = c.scoped_is_compilable.ensures h.expanded.forms p h.expanded.expands h.in_scope in

@@ -8,12 +8,11 @@ use Rattle.ql_scope.specs.Scope.{binders_in}
 use Rattle.ql_code.specs.Code.{instruction}
 use Rattle.ql_code.specs.declared.code.Op.TheVariants.{Catch, Join, Qcatch}
 use Rattle.ql_compile.proofs.Rests.{drop_is}
-use Rattle.ql_expand.specs.Opened.{opened, bound_opened, if_is, let_is, call_is, funcall_is, qlet_is, qlambda_is, catch_is, qcatch_is, throw_is, protect_is}
+use Rattle.ql_expand.specs.Opened.{defvar_is, primitive_is, print_is, opened, bound_opened, if_is, let_is, call_is, funcall_is, qlet_is, qlambda_is, catch_is, qcatch_is, throw_is, protect_is}
 use Rattle.ql_meaning.specs.Context.{offset_of}
 use Rattle.ql_compile.specs.Compile.{call_op, find_in, place_called, starts_of, write_op}
 use Rattle.ql_compile.specs.Emitting.{context_in, core_code, followed, cores_code, joined_code, just, places_in, values_code, within}
 use Rattle.ql_compile.proofs.Counts.{binders_length, bounds_length}
-use Rattle.ql_compile.proofs.Nodes.{defvar_is, primitive_is, print_is}
 use Rattle.ql_compile.proofs.Emitting.{and_then, binding_code, caught_code, conditional_code, emits_more, funcall_code, more_then, protect_code, qlambda_code, qlet_code, throw_code}
 use Rattle.ql_compile.proofs.Framed.{above_codes, closure_codes, cores_split, form_one, joined_split, nothing_left, one_joined, operands_more, pushed_is, rest_none, rest_one, some_left, some_more, starts_split, under_codes, values_split}
 use Rattle.ql_compile.proofs.emit.Emitter.+emit.Goals as goal

@@ -3,9 +3,9 @@ use Rattle.std.proofs.lemmas.List.{drop_all}
 use Rattle.ql_expand.specs.View.{core_of, binders_of, bounds_of}
 use Rattle.ql_scope.specs.Scope.{binders_in}
 use Rattle.ql_compile.proofs.Rests.{drop_is}
-use Rattle.ql_expand.specs.Opened.{opened, bound_opened, setq_is, if_is, let_is, funcall_is, qlet_is, qlambda_is, catch_is, qcatch_is, throw_is, protect_is}
+use Rattle.ql_expand.specs.Opened.{defvar_is, opened, bound_opened, setq_is, if_is, let_is, funcall_is, qlet_is, qlambda_is, catch_is, qcatch_is, throw_is, protect_is}
 use Rattle.ql_compile.specs.Compile.{free}
-use Rattle.ql_compile.proofs.Capturing.{gathers_nothing, gathers_then, then_more, under_binders, defvar_is}
+use Rattle.ql_compile.proofs.Capturing.{gathers_nothing, gathers_then, then_more, under_binders}
 use Rattle.ql_compile.proofs.free.Walk.+free.Goals as goal
 
 pub core-returns : goal.core-returns
