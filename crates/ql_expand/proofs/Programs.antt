@@ -3,10 +3,10 @@ use Rattle.std.proofs.Common.{◌≡◌, ℕ, ◌<◌, ◌≤◌, Bool, true, fa
 use Rattle.std.proofs.lemmas.Bool.{lt-ltb, and_parts}
 use Rattle.std.proofs.lemmas.Bool.Decides.{nat_tests}
 use Rattle.ql_forms.specs.Form.{Form, Forms, none, more, atom, list, proper, dotted, symbol, is_nil, form_below, forms_below, items_of}
-use Rattle.ql_expand.specs.Core.{Binder, Core, Cores, Bounds, no_bounds, and_bound, Function, Program, program}
+use Rattle.ql_expand.specs.Core.{Binder, Core, Cores, Bounds, Function, Program, program}
 use Rattle.ql_expand.specs.Below.{core_below, cores_below, binders_below, bounds_below, program_below}
 use Rattle.ql_expand.specs.Primitives.{has_primitives, have_primitives, bounds_have_primitives, program_has_primitives}
-use Rattle.ql_expand.specs.Expands.{with_binder, binders_in, parameters_in, Rewrites, no_terms, Expands, sugar, or_more, integer_alone, constant_word, quoted, variable_word, assigned, if_then, if_else, sequence, bound, one_operand, two_operands, printed, called, value_called, closed, bound_apart, closed_apart, caught, caught_all, thrown, protected, Body, no_forms, one_form, forms, InTurn, last_form, then_forms, Each, none_left, one_more, Bind, with_value, without_value, alone, Binds, none_bound, one_bound, TopForms, no_tops, top_function, top_global, top_form, ExpandsTo}
+use Rattle.ql_expand.specs.Expands.{with_binder, binders_in, parameters_in, Rewrites, no_terms, Expands, sugar, or_more, integer_alone, constant_word, quoted, variable_word, assigned, if_then, if_else, sequence, bound, one_operand, two_operands, printed, called, value_called, closed, bound_apart, closed_apart, caught, caught_all, thrown, protected, Body, no_forms, one_form, forms, InTurn, last_form, then_forms, Each, none_left, one_more, with_value, without_value, alone, Binds, none_bound, one_bound, TopForms, no_tops, top_function, top_global, top_form, ExpandsTo}
 
 below_more : (m n : ℕ) → m < 46 → 46 ≤ n → nat_lt m n ≡ true
 below_more m n h i = lt-ltb m n (omega arith)

@@ -8,7 +8,7 @@ ghost use Rattle.ql_expand.specs.ExpandFault.{misshapen, variable_faults, functi
 ghost use Rattle.ql_expand.specs.Expands.{binders_in};
 ghost use Rattle.ql_expand.specs.Operator.{operator_of};
 ghost use Rattle.ql_expand.specs.Parts.{split_of};
-ghost use Rattle.ql_expand.specs.Searching.{top_faults, split_faults, operation_faults, symbols_faults};
+ghost use Rattle.ql_expand.specs.Searching.{Past, top_faults, split_faults, operation_faults, symbols_faults};
 
 use crate::level::{DEEPEST, level_below};
 use crate::operator::{Operator, Reading, operator_of};
@@ -62,16 +62,14 @@ struct Search<'a> {
 
 impl<'a> Search<'a> {
     fn bad_shape(&mut self, at: Offset)
-        ensures first { self.new.first ≡ first_of self.old.first (misshapen at.0) }
-        ensures names { self.new.names ≡ self.old.names }
+        ensures { Past self.old self.new (misshapen at.0) }
     {
         find(&mut self.first, FaultKind::BadShape, at);
     }
 
     // The name of a variable.
     fn variable(&mut self, symbol: Symbol)
-        ensures first { self.new.first ≡ first_of self.old.first (variable_faults symbol.at.0 symbol.number) }
-        ensures names { self.new.names ≡ self.old.names }
+        ensures { Past self.old self.new (variable_faults symbol.at.0 symbol.number) }
     {
         let is_constant = matches!(operator_of(symbol.number), Operator::Constant);
         find_if(
@@ -84,8 +82,7 @@ impl<'a> Search<'a> {
 
     // The name of a function.
     fn function(&mut self, symbol: Symbol)
-        ensures first { self.new.first ≡ first_of self.old.first (function_faults symbol.at.0 symbol.number) }
-        ensures names { self.new.names ≡ self.old.names }
+        ensures { Past self.old self.new (function_faults symbol.at.0 symbol.number) }
     {
         let is_call = matches!(operator_of(symbol.number), Operator::Call);
         find_if(
@@ -97,8 +94,7 @@ impl<'a> Search<'a> {
     }
 
     fn parameter(&mut self, symbol: Symbol)
-        ensures first { self.new.first ≡ first_of self.old.first (parameter_faults self.old.names.now symbol.at.0 symbol.number) }
-        ensures names { self.new.names ≡ self.old.names }
+        ensures { Past self.old self.new (parameter_faults self.old.names.now symbol.at.0 symbol.number) }
     {
         if is_marked(self.names.letters(symbol.number)) {
             self.bad_shape(symbol.at);
@@ -110,8 +106,7 @@ impl<'a> Search<'a> {
     // A parameter list.
     #[tactic(auto, using(crate::proofs::Splits::symbols_in))]
     fn parameters(&mut self, params: &Form)
-        ensures first { self.new.first ≡ first_of self.old.first (parameters_faults self.old.names.now (form_of params.now)) }
-        ensures names { self.new.names ≡ self.old.names }
+        ensures { Past self.old self.new (parameters_faults self.old.names.now (form_of params.now)) }
     {
         match params.items() {
             Some(items) if are_symbols(items) => self.symbols(items),
@@ -121,8 +116,7 @@ impl<'a> Search<'a> {
 
     // The symbols among these as parameters.
     fn symbols(&mut self, forms: &[Form])
-        ensures first { self.new.first ≡ first_of self.old.first (symbols_faults self.old.names.now (forms_of forms.now)) }
-        ensures names { self.new.names ≡ self.old.names }
+        ensures { Past self.old self.new (symbols_faults self.old.names.now (forms_of forms.now)) }
     {
         for form in forms {
             if let Some(symbol) = form.symbol() {
@@ -133,8 +127,7 @@ impl<'a> Search<'a> {
 
     // A definition that is no top form.
     fn definition(&mut self, top: bool, at: Offset, reading: Reading)
-        ensures first { self.new.first ≡ first_of self.old.first (top_faults top at.0 reading) }
-        ensures names { self.new.names ≡ self.old.names }
+        ensures { Past self.old self.new (top_faults top at.0 reading) }
     {
         if let Reading::Global | Reading::Definition = reading {
             find_if(&mut self.first, !top, FaultKind::BadTop, at);
@@ -143,8 +136,7 @@ impl<'a> Search<'a> {
 
     #[tactic(auto, using(ql_base::specs::Refusal::first_appended, crate::proofs::Counts::rest))]
     fn tops(&mut self, forms: &[Form])
-        ensures first { self.new.first ≡ first_of self.old.first (source_faults self.old.names.now (forms_of forms.now)) }
-        ensures names { self.new.names ≡ self.old.names }
+        ensures { Past self.old self.new (source_faults self.old.names.now (forms_of forms.now)) }
     {
         for form in forms {
             self.form(true, 1, form);
@@ -154,8 +146,7 @@ impl<'a> Search<'a> {
     #[cycle(search)]
     #[tactic(auto, using(crate::proofs::Splits::shallow_form))]
     fn form(&mut self, top: bool, level: u128, form: &Form)
-        ensures first { self.new.first ≡ first_of self.old.first (form_faults self.old.names.now top level (form_of form.now)) }
-        ensures names { self.new.names ≡ self.old.names }
+        ensures { Past self.old self.new (form_faults self.old.names.now top level (form_of form.now)) }
     {
         if level > DEEPEST {
             self.bad_shape(form.offset());
@@ -169,8 +160,7 @@ impl<'a> Search<'a> {
     #[tactic(auto, using(ql_base::specs::Refusal::first_appended))]
     fn list(&mut self, top: bool, level: u128, form: &Form)
         requires { level ≤ 400 }
-        ensures first { self.new.first ≡ first_of self.old.first (operation_faults self.old.names.now top level (place_of (form_of form.now)) (operation_in (form_of form.now))) }
-        ensures names { self.new.names ≡ self.old.names }
+        ensures { Past self.old self.new (operation_faults self.old.names.now top level (place_of (form_of form.now)) (operation_in (form_of form.now))) }
     {
         let at = form.offset();
         let Some((head, parts)) = form.operation() else {
@@ -185,8 +175,7 @@ impl<'a> Search<'a> {
     #[cycle(search)]
     #[tactic(auto, using(ql_base::specs::Refusal::first_appended))]
     fn parts(&mut self, level: u128, at: Offset, parts: Parts)
-        ensures first { self.new.first ≡ first_of self.old.first (split_faults self.old.names.now level at.0 (split_of parts.entry)) }
-        ensures names { self.new.names ≡ self.old.names }
+        ensures { Past self.old self.new (split_faults self.old.names.now level at.0 (split_of parts.entry)) }
     {
         match parts {
             Parts::Misshapen => self.bad_shape(at),
@@ -226,8 +215,7 @@ impl<'a> Search<'a> {
     #[cycle(search)]
     #[tactic(auto, using(ql_base::specs::Refusal::first_appended, crate::proofs::Counts::rest))]
     fn forms(&mut self, level: u128, forms: &[Form])
-        ensures first { self.new.first ≡ first_of self.old.first (forms_faults self.old.names.now level (forms_of forms.now)) }
-        ensures names { self.new.names ≡ self.old.names }
+        ensures { Past self.old self.new (forms_faults self.old.names.now level (forms_of forms.now)) }
     {
         for form in forms {
             self.form(false, level, form);
@@ -238,8 +226,7 @@ impl<'a> Search<'a> {
     #[cycle(search)]
     #[tactic(auto, using(ql_base::specs::Refusal::first_appended, crate::proofs::Splits::shallow_bind))]
     fn bind(&mut self, level: u128, bind: &Form)
-        ensures first { self.new.first ≡ first_of self.old.first (bind_faults self.old.names.now level (form_of bind.now)) }
-        ensures names { self.new.names ≡ self.old.names }
+        ensures { Past self.old self.new (bind_faults self.old.names.now level (form_of bind.now)) }
     {
         let at = bind.offset();
         if level > DEEPEST {
@@ -259,8 +246,7 @@ impl<'a> Search<'a> {
     #[cycle(search)]
     #[tactic(auto, using(ql_base::specs::Refusal::first_appended, crate::proofs::Counts::rest))]
     fn binds(&mut self, level: u128, binds: &[Form])
-        ensures first { self.new.first ≡ first_of self.old.first (binds_faults self.old.names.now level (forms_of binds.now)) }
-        ensures names { self.new.names ≡ self.old.names }
+        ensures { Past self.old self.new (binds_faults self.old.names.now level (forms_of binds.now)) }
     {
         for bind in binds {
             self.bind(level, bind);
@@ -271,8 +257,7 @@ impl<'a> Search<'a> {
     #[cycle(search)]
     #[tactic(auto, using(ql_base::specs::Refusal::first_appended, crate::proofs::Splits::shallow_clause))]
     fn clause(&mut self, level: u128, clause: &Form)
-        ensures first { self.new.first ≡ first_of self.old.first (clause_faults self.old.names.now level (form_of clause.now)) }
-        ensures names { self.new.names ≡ self.old.names }
+        ensures { Past self.old self.new (clause_faults self.old.names.now level (form_of clause.now)) }
     {
         let at = clause.offset();
         if level > DEEPEST {
@@ -290,8 +275,7 @@ impl<'a> Search<'a> {
     #[cycle(search)]
     #[tactic(auto, using(ql_base::specs::Refusal::first_appended, crate::proofs::Counts::rest))]
     fn clauses(&mut self, level: u128, clauses: &[Form])
-        ensures first { self.new.first ≡ first_of self.old.first (clauses_faults self.old.names.now level (forms_of clauses.now)) }
-        ensures names { self.new.names ≡ self.old.names }
+        ensures { Past self.old self.new (clauses_faults self.old.names.now level (forms_of clauses.now)) }
     {
         for clause in clauses {
             self.clause(level, clause);
