@@ -33,7 +33,7 @@ use Rattle.ql_expand.proofs.Gathering.{cores_last, cores_alone}
 -- a top form at a place has no fault
 pub fine_top_at : (names : List (List ℕ)) (xs : List Form) (i : ℕ) (x : Form) → source_faults names (forms_of xs) ≡ [] → i < length xs → x ≡ get_or xs i x → IsFineTop (form_of x)
 fine_top_at names =
-    at_place (λ fs. source_faults names fs ≡ []) IsFineTop (λ f fs h. let both = neither (form_faults names true 1 f) (source_faults names fs) h in ((names, both.0), both.1))
+    at_place (λ fs. source_faults names fs ≡ []) IsFineTop (λ f fs h. let both = neither h in ((names, both.0), both.1))
 
 pub made_next : (all : List Form) (i : ℕ) (x : Form) (t u : Tops) → Made (forms_of all) (forms_of (drop i all)) t → i < length all → x ≡ get_or all i x → Adds (form_of x) t u
     → Made (forms_of all) (forms_of (drop (i + 1) all)) u
