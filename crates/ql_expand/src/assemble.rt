@@ -139,7 +139,13 @@ impl Maker {
     pub fn boxed_nil<'a>(self) -> Result<Child<'a>, AllocError>
         ensures { IfOk result (λ c. core_of c ≡ nil_core self.at.0) }
     {
-        Boxed::new(self.alloc, self.nil())
+        self.boxed(self.nil())
+    }
+
+    fn boxed<'a>(self, value: Core<'a>) -> Result<Child<'a>, AllocError>
+        ensures { IfOk result (λ c. core_of c ≡ core_of value.entry) }
+    {
+        Boxed::new(self.alloc, value)
     }
 
     fn primitive<'a>(self, op: u32, args: Items<Core<'a>>) -> Core<'a>
@@ -155,11 +161,12 @@ impl Maker {
         self.primitive(op.number(), Items::from_vec(args))
     }
 
-    fn with_one<'a>(self, op: Reserved, value: Core<'a>) -> Made<'a>
-        ensures { IfOk result (λ c. core_of c ≡ with_one self.at.0 (number op) (core_of value.entry)) }
+    // Whether a primitive that sugar adds has the value nil.
+    fn negated<'a>(self, op: Reserved, args: Vec<Core<'a>>) -> Made<'a>
+        ensures { IfOk result (λ c. core_of c ≡ with_one self.at.0 (number Reserved.Null) (core self.at.0 (primitive (number op) (cores_of args.entry.items)))) }
     {
-        let args = one_item(self.alloc, value)?;
-        Ok(self.primitive(op.number(), args))
+        let value = one_item(self.alloc, self.word_primitive(op, args))?;
+        Ok(self.primitive(Reserved::Null.number(), value))
     }
 
     fn with_two<'a>(self, op: u32, first: Core<'a>, second: Core<'a>) -> Made<'a>
@@ -201,7 +208,7 @@ impl Maker {
     fn both<'a>(self, first: Core<'a>, rest: Child<'a>) -> Made<'a>
         ensures { IfOk result (λ c. core_of c ≡ linked Operator.And self.at.0 (core_of first.entry) (core_of rest.entry)) }
     {
-        let first = Boxed::new(self.alloc, first)?;
+        let first = self.boxed(first)?;
         let nil = self.boxed_nil()?;
         Ok(self.conditional(first, rest, nil))
     }
@@ -254,7 +261,7 @@ impl Maker {
         match cores.pop() {
             None => Ok(self.of_none(operator)),
             Some(last) => {
-                let last = Boxed::new(self.alloc, last)?;
+                let last = self.boxed(last)?;
                 self.chain(operator, cores, last)
             }
         }
@@ -275,7 +282,7 @@ impl Maker {
     }
 
     // Operands of an operator of two, with the number that stands before a single one.
-    #[tactic(auto, using(crate::proofs::Assembles::operands_few))]
+    #[tactic(auto, using(crate::proofs::Assembles::operands_few, crate::proofs::Assembles::operands_more))]
     fn operands<'a>(self, op: u32, unit: u8, mut cores: Vec<Core<'a>>) -> Made<'a>
         ensures { IfOk result (λ c. core_of c ≡ operands self.at.0 op unit (cores_of cores.entry.items)) }
     {
@@ -287,7 +294,7 @@ impl Maker {
         match cores.pop() {
             None => unreachable!(),
             Some(first) => {
-                let first = Boxed::new(self.alloc, first)?;
+                let first = self.boxed(first)?;
                 self.folded(op, first, cores)
             }
         }
@@ -381,14 +388,8 @@ impl Maker {
             Operator::Sum | Operator::Difference => self.operands(head.number, 0, cores),
             Operator::Product => self.operands(head.number, 1, cores),
             Operator::Not => Ok(self.word_primitive(Reserved::Null, cores)),
-            Operator::AtMost => self.with_one(
-                Reserved::Null,
-                self.word_primitive(Reserved::Greater, cores),
-            ),
-            Operator::AtLeast => self.with_one(
-                Reserved::Null,
-                self.word_primitive(Reserved::Less, cores),
-            ),
+            Operator::AtMost => self.negated(Reserved::Greater, cores),
+            Operator::AtLeast => self.negated(Reserved::Less, cores),
             Operator::And | Operator::Or => self.all_linked(operator, cores),
             Operator::List => self.chain(operator, cores, self.boxed_nil()?),
             Operator::Call => Ok(self.call(head, cores)),
