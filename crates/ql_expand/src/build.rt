@@ -13,7 +13,7 @@ ghost use Rattle.ql_expand.specs.View.{binders_of, bound_of, bounds_of, core_of,
 use crate::assemble::{Child, Made, Maker, Way, way_of};
 use crate::core_form::{Binder, Bound, Core, VarName};
 use crate::operator::{Operator, operator_of};
-use crate::parts::{Parts, bind_of, clause_of, parts_of};
+use crate::parts::{Parts, bind_of, clause_of, read};
 use ql_base::numbers::Offset;
 use ql_forms::form::{Atom, Form, Symbol, first_of};
 use sqlite_items::{Boxed, Items};
@@ -64,7 +64,7 @@ fn fitting<'a>(at: Offset, head: Symbol, parts: &'a [Form]) -> Parts<'a>
     ensures fits { Fits (operator_of head.number) (forms_of parts.now) (split_of result) }
     ensures size { split_weight (split_of result) ≤ weights (forms_of parts.now) }
 {
-    parts_of(operator_of(head.number), parts)
+    read(operator_of(head.number).reading(), parts)
 }
 
 // A list with this operator.

@@ -17,8 +17,8 @@ use crate::assemble::Maker;
 use crate::build::{body, boxed, expanded, parameters};
 use crate::core_form::{Core, Function, Node};
 use crate::laws::expanded_numbers;
-use crate::operator::{Operator, operator_of};
-use crate::parts::{Parts, parts_of};
+use crate::operator::{Operator, Reading, operator_of};
+use crate::parts::{Parts, read};
 use crate::program::Program;
 use ql_base::numbers::Offset;
 use ql_forms::form::{Form, Symbol};
@@ -106,7 +106,7 @@ impl<'a> Tops<'a> {
             name,
             params,
             body: forms,
-        } = parts_of(Operator::Defun, parts)
+        } = read(Reading::Definition, parts)
         else {
             unreachable!()
         };
@@ -126,7 +126,7 @@ impl<'a> Tops<'a> {
         requires { IsFineSplit (assignment_by (forms_of parts.now)) }
         ensures { (o w : ℕ) → operator_of w ≡ Defvar → OnOk result (Adds (applied at.0 o w (forms_of parts.now)) self.old self.new) }
     {
-        let Parts::Assignment { variable, value } = parts_of(Operator::Defvar, parts) else {
+        let Parts::Assignment { variable, value } = read(Reading::Global, parts) else {
             unreachable!()
         };
         let value = boxed(alloc, value)?;
