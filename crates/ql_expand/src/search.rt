@@ -144,32 +144,22 @@ impl<'a> Search<'a> {
     }
 
     #[cycle(search)]
-    #[tactic(auto, using(crate::proofs::Splits::shallow_form))]
+    #[tactic(auto, using(ql_base::specs::Refusal::first_appended, crate::proofs::Splits::shallow_form))]
     fn form(&mut self, top: bool, level: u128, form: &Form)
         ensures { Past self.old self.new (form_faults self.old.names.now top level (form_of form.now)) }
     {
-        if level > DEEPEST {
-            self.bad_shape(form.offset());
-        } else if !form.is_atom() {
-            self.list(top, level, form);
-        }
-    }
-
-    // A list that isn't too deep.
-    #[cycle(search)]
-    #[tactic(auto, using(ql_base::specs::Refusal::first_appended))]
-    fn list(&mut self, top: bool, level: u128, form: &Form)
-        requires { level ≤ 400 }
-        ensures { Past self.old self.new (operation_faults self.old.names.now top level (place_of (form_of form.now)) (operation_in (form_of form.now))) }
-    {
         let at = form.offset();
-        let Some((head, parts)) = form.operation() else {
+        if level > DEEPEST {
             self.bad_shape(at);
-            return;
-        };
-        let reading = operator_of(head.number).reading();
-        self.definition(top, at, reading);
-        self.parts(level_below(reading, level, parts), at, read(reading, parts));
+        } else if !form.is_atom() {
+            let Some((head, parts)) = form.operation() else {
+                self.bad_shape(at);
+                return;
+            };
+            let reading = operator_of(head.number).reading();
+            self.definition(top, at, reading);
+            self.parts(level_below(reading, level, parts), at, read(reading, parts));
+        }
     }
 
     #[cycle(search)]
@@ -228,18 +218,14 @@ impl<'a> Search<'a> {
     fn bind(&mut self, level: u128, bind: &Form)
         ensures { Past self.old self.new (bind_faults self.old.names.now level (form_of bind.now)) }
     {
-        let at = bind.offset();
-        if level > DEEPEST {
-            self.bad_shape(at);
-            return;
-        }
-        let Some(bound) = bind_of(bind) else {
-            self.bad_shape(at);
-            return;
-        };
-        self.variable(bound.variable);
-        if let Some(value) = bound.value {
-            self.form(false, level + 1, value);
+        match bind_of(bind) {
+            Some(bound) if level <= DEEPEST => {
+                self.variable(bound.variable);
+                if let Some(value) = bound.value {
+                    self.form(false, level + 1, value);
+                }
+            }
+            _ => self.bad_shape(bind.offset()),
         }
     }
 
@@ -259,17 +245,13 @@ impl<'a> Search<'a> {
     fn clause(&mut self, level: u128, clause: &Form)
         ensures { Past self.old self.new (clause_faults self.old.names.now level (form_of clause.now)) }
     {
-        let at = clause.offset();
-        if level > DEEPEST {
-            self.bad_shape(at);
-            return;
+        match clause_of(clause) {
+            Some((test, others)) if level <= DEEPEST => {
+                self.form(false, level + 1, test);
+                self.forms(level + 1, others);
+            }
+            _ => self.bad_shape(clause.offset()),
         }
-        let Some((test, others)) = clause_of(clause) else {
-            self.bad_shape(at);
-            return;
-        };
-        self.form(false, level + 1, test);
-        self.forms(level + 1, others);
     }
 
     #[cycle(search)]
