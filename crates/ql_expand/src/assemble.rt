@@ -115,16 +115,10 @@ impl Maker {
     {
         match value {
             Atom::Int(_) => self.constant(value),
-            Atom::Sym(number) => self.word(number),
-        }
-    }
-
-    fn word<'a>(self, number: u32) -> Core<'a>
-        ensures { core_of result ≡ atom_core self.at.0 (atom_of (Atom.Sym number)) }
-    {
-        match operator_of(number) {
-            Operator::Constant => self.constant(Atom::Sym(number)),
-            _ => self.variable(VarName::Sym(number)),
+            Atom::Sym(number) => match operator_of(number) {
+                Operator::Constant => self.constant(value),
+                _ => self.variable(VarName::Sym(number)),
+            },
         }
     }
 
@@ -204,15 +198,6 @@ impl Maker {
         Ok(self.binding(binds, body))
     }
 
-    // A form and a boxed rest, of `and`.
-    fn both<'a>(self, first: Core<'a>, rest: Child<'a>) -> Made<'a>
-        ensures { IfOk result (λ c. core_of c ≡ linked Operator.And self.at.0 (core_of first.entry) (core_of rest.entry)) }
-    {
-        let first = self.boxed(first)?;
-        let nil = self.boxed_nil()?;
-        Ok(self.conditional(first, rest, nil))
-    }
-
     // A form before the rest of `and`, `or` or `list`.
     fn linked<'a>(
         self,
@@ -223,11 +208,15 @@ impl Maker {
         ensures { IfOk result (λ c. core_of c ≡ linked operator self.at.0 (core_of first.entry) (core_of rest.entry)) }
     {
         let core = match operator {
-            Operator::And => self.both(first, rest),
-            Operator::Or => self.either(first, rest),
-            _ => self.with_two(Reserved::Cons.number(), first, rest.into_inner()),
+            Operator::And => {
+                let first = self.boxed(first)?;
+                let nil = self.boxed_nil()?;
+                self.conditional(first, rest, nil)
+            }
+            Operator::Or => self.either(first, rest)?,
+            _ => self.with_two(Reserved::Cons.number(), first, rest.into_inner())?,
         };
-        Boxed::new(self.alloc, core?)
+        self.boxed(core)
     }
 
     // Forms before the rest, from the last one.
