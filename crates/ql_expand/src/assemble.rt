@@ -148,18 +148,12 @@ impl Maker {
         self.core(Node::Prim { op, args })
     }
 
-    // A primitive that sugar adds.
-    fn word_primitive<'a>(self, op: Reserved, args: Vec<Core<'a>>) -> Core<'a>
-        ensures { core_of result ≡ core self.at.0 (primitive (number op) (cores_of args.entry.items)) }
-    {
-        self.primitive(op.number(), Items::from_vec(args))
-    }
-
     // Whether a primitive that sugar adds has the value nil.
     fn negated<'a>(self, op: Reserved, args: Vec<Core<'a>>) -> Made<'a>
         ensures { IfOk result (λ c. core_of c ≡ with_one self.at.0 (number Reserved.Null) (core self.at.0 (primitive (number op) (cores_of args.entry.items)))) }
     {
-        let value = one_item(self.alloc, self.word_primitive(op, args))?;
+        let value = self.primitive(op.number(), Items::from_vec(args));
+        let value = one_item(self.alloc, value)?;
         Ok(self.primitive(Reserved::Null.number(), value))
     }
 
@@ -232,23 +226,16 @@ impl Maker {
         Ok(whole.into_inner())
     }
 
-    // What `and` and `or` of no forms are.
-    fn of_none<'a>(self, operator: Operator) -> Core<'a>
-        ensures { core_of result ≡ of_none operator self.at.0 }
-    {
-        match operator {
-            Operator::And => self.constant(Atom::Sym(Reserved::True.number())),
-            _ => self.nil(),
-        }
-    }
-
     // Forms of `and` or `or`, of which the last is the rest.
     #[tactic(auto, using(crate::proofs::Assembles::all_linked_last))]
     fn all_linked<'a>(self, operator: Operator, mut cores: Vec<Core<'a>>) -> Made<'a>
         ensures { IfOk result (λ c. core_of c ≡ all_linked operator self.at.0 (cores_of cores.entry.items)) }
     {
         match cores.pop() {
-            None => Ok(self.of_none(operator)),
+            None => match operator {
+                Operator::And => Ok(self.constant(Atom::Sym(Reserved::True.number()))),
+                _ => Ok(self.nil()),
+            },
             Some(last) => {
                 let last = self.boxed(last)?;
                 self.chain(operator, cores, last)
@@ -376,25 +363,18 @@ impl Maker {
         match operator {
             Operator::Sum | Operator::Difference => self.operands(head.number, 0, cores),
             Operator::Product => self.operands(head.number, 1, cores),
-            Operator::Not => Ok(self.word_primitive(Reserved::Null, cores)),
+            Operator::Not => Ok(self.primitive(Reserved::Null.number(), Items::from_vec(cores))),
             Operator::AtMost => self.negated(Reserved::Greater, cores),
             Operator::AtLeast => self.negated(Reserved::Less, cores),
             Operator::And | Operator::Or => self.all_linked(operator, cores),
             Operator::List => self.chain(operator, cores, self.boxed_nil()?),
-            Operator::Call => Ok(self.call(head, cores)),
+            Operator::Call => Ok(self.core(Node::Call {
+                name: head.number,
+                named: head.at,
+                args: Items::from_vec(cores),
+            })),
             _ => Ok(self.primitive(head.number, Items::from_vec(cores))),
         }
-    }
-
-    // A call of a function by its name.
-    fn call<'a>(self, function: Symbol, args: Vec<Core<'a>>) -> Core<'a>
-        ensures { core_of result ≡ core self.at.0 (call function.number function.at.0 (cores_of args.entry.items)) }
-    {
-        self.core(Node::Call {
-            name: function.number,
-            named: function.at,
-            args: Items::from_vec(args),
-        })
     }
 
     /// A datum as a constant.
