@@ -7,7 +7,7 @@ use Rattle.ql_forms.specs.declared.form.Form.{Form}
 use Rattle.ql_base.specs.declared.refusal.Fault.{Fault}
 use Rattle.ql_expand.specs.Building.{weight, weights, IsFine, AreFine, IsFineBind, AreFineBinds, IsFineClause, AreFineClauses, HasParameters, IsFineSplit, Fits, fits_datum, fits_forms, fits_assignment, fits_let, fits_let_star, fits_qlet, fits_lambda, fits_qlambda, fits_clauses, allows}
 use Rattle.ql_expand.specs.Core.{Binder}
-use Rattle.ql_expand.specs.ExpandFault.{misshapen as bad_shape, unless_deep, form_faults, forms_faults, bind_faults, binds_faults, clause_faults, clauses_faults, variable_faults, function_faults, parameters_faults, shape_of_parameters}
+use Rattle.ql_expand.specs.ExpandFault.{misshapen as bad_shape, unless_deep, form_faults, forms_faults, clauses_faults, parameters_faults, shape_of_parameters}
 use Rattle.ql_expand.specs.Expands.{applied, parameters_in}
 use Rattle.ql_expand.specs.Operator.{operator_of, reading_of}
 use Rattle.ql_expand.specs.Parts.{Split, misshapen, datum, forms, assignment, bindings, form_and_bindings, parameters, form_and_parameters, definition, clauses, parts_by, datum_by, assignment_by, bindings_by, with_binds, form_and_bindings_by, after, parameters_by, form_and_parameters_by, bind_in, clause_in}

@@ -1,5 +1,5 @@
 -- What is wrong with a form is what is wrong in its parts.
-use Rattle.std.proofs.Common.{◌≡◌, ℕ, ◌+◌, ◌≤◌, List, [], ◌++◌, Option, Some, None, refl, ap, ◌∙◌, arith}
+use Rattle.std.proofs.Common.{◌≡◌, ℕ, ◌+◌, ◌≤◌, List, [], ◌++◌, Option, Some, None, refl, ap, ◌∙◌}
 use Rattle.std.specs.Prelude.{is_some, Bool, true, false, if◌then◌else◌, ◌==◌, ltb}
 use Rattle.std.proofs.lemmas.Bool.{le-ltb}
 use Rattle.ql_forms.specs.Form.{Form, Forms, none, more, atom, list, Tail, proper, dotted, symbol, integer, is_nil, items_of, operation_in, place_of, count}

@@ -1,7 +1,6 @@
 -- How large forms are, and their parts.
-use Rattle.std.proofs.Common.{◌≡◌, ℕ, zero, suc, ◌+◌, ◌<◌, ◌≤◌, List, [], ◌∷◌, ◌++◌, ◌∙◌, length, get_or, sym, ap, subst, arith, Some, None}
-use Rattle.std.specs.Prelude.{Bool, true, false, if◌then◌else◌}
-use Rattle.ql_forms.specs.Form.{Form as Datum, Forms, none, proper, dotted, atom, list, is_nil, items_of}
+use Rattle.std.proofs.Common.{◌≡◌, ℕ, zero, suc, ◌+◌, ◌<◌, ◌≤◌, List, [], ◌∷◌, ◌++◌, ◌∙◌, length, get_or, sym, ap, subst, arith, Some}
+use Rattle.ql_forms.specs.Form.{Form as Datum, Forms, proper, dotted, atom, list, is_nil, items_of}
 use Rattle.ql_forms.specs.View.{form_of, forms_of}
 use Rattle.ql_forms.specs.declared.form.Form.{Form}
 use Rattle.ql_expand.specs.Building.{IsFine, AreFine, weight, weights, split_weight, Fits, fits_datum, fits_forms, fits_assignment, fits_let, fits_let_star, fits_qlet, fits_lambda, fits_qlambda, fits_clauses}
