@@ -4,7 +4,7 @@ ghost use Rattle.std.specs.Prelude.{◌≡◌, IfOk, [], ◌∷◌, reverse};
 ghost use Rattle.ql_base.specs.Reserved.{number};
 ghost use Rattle.ql_forms.specs.View.{atom_of, form_of};
 ghost use Rattle.ql_forms.specs.Form.{atom};
-ghost use Rattle.ql_expand.specs.Assembly.{one_bound, nil_core, number_core, true_core, atom_core, with_one, with_two, either, linked, chain, of_none, all_linked, folded, operands, under, nested, let_core, before_body, of_each, way_of};
+ghost use Rattle.ql_expand.specs.Assembly.{one_bound, nil_core, atom_core, with_one, with_two, either, linked, chain, all_linked, folded, operands, under, nested, let_core, before_body, of_each, way_of};
 ghost use Rattle.ql_expand.specs.Core.{binder, binding, call, core, constant, conditional, funcall, hidden, lambda, named, primitive, print, progn, qlambda, qlet, setq, variable};
 ghost use Rattle.ql_expand.specs.View.{binders_of, bound_of, bounds_of, core_of, cores_of, name_of, node_of};
 

@@ -1,7 +1,7 @@
 //! The core of forms that have no fault.
 
-ghost use Rattle.std.specs.Prelude.{◌≡◌, ◌≤◌, ◌+◌, ◌++◌, ◌∷◌, [], IfOk, MatchOption, Some, false, length, true};
-ghost use Rattle.ql_forms.specs.Form.{Forms as Data, atom, more, none, count, place_of};
+ghost use Rattle.std.specs.Prelude.{◌≡◌, ◌≤◌, ◌+◌, IfOk, MatchOption, Some, false, true};
+ghost use Rattle.ql_forms.specs.Form.{Forms as Data, atom, more, count, place_of};
 ghost use Rattle.ql_forms.specs.View.{atom_of, form_of, forms_of};
 ghost use Rattle.ql_expand.specs.Building.{IsList, IsFine, AreFine, IsFineBind, AreFineBinds, IsFineClause, AreFineClauses, HasParameters, HasBinders, IsFineSplit, Fits, allows, passes, Clauses, EachOf, weight, weights, split_weight};
 ghost use Rattle.ql_expand.specs.Core.{binder, named};

@@ -1,14 +1,13 @@
 //! The first fault of the forms of a source.
 
-ghost use Rattle.std.specs.Prelude.{◌≡◌, ◌≤◌, is_some};
-ghost use Rattle.ql_base.specs.Refusal.{least, first_of};
-ghost use Rattle.ql_forms.specs.Form.{operation_in, place_of};
+ghost use Rattle.std.specs.Prelude.{◌≡◌, is_some};
+ghost use Rattle.ql_base.specs.Refusal.{least};
 ghost use Rattle.ql_forms.specs.View.{form_of, forms_of};
 ghost use Rattle.ql_expand.specs.ExpandFault.{misshapen, variable_faults, function_faults, is_marked, parameter_faults, parameters_faults, form_faults, forms_faults, bind_faults, binds_faults, clause_faults, clauses_faults, source_faults};
 ghost use Rattle.ql_expand.specs.Expands.{binders_in};
 ghost use Rattle.ql_expand.specs.Operator.{operator_of};
 ghost use Rattle.ql_expand.specs.Parts.{split_of};
-ghost use Rattle.ql_expand.specs.Searching.{Past, top_faults, split_faults, operation_faults, symbols_faults};
+ghost use Rattle.ql_expand.specs.Searching.{Past, top_faults, split_faults, symbols_faults};
 
 use crate::level::{DEEPEST, level_below};
 use crate::operator::{Operator, Reading, operator_of};
