@@ -1,7 +1,5 @@
 -- What loops over cores make.
-use Rattle.std.proofs.Common.{◌≡◌, ℕ, ◌<◌, ◌≤◌, arith, length, length-append, List, [], ◌∷◌, ◌++◌, refl, ap, sym, ◌∙◌, reverse, Result, Ok, Err}
-use Rattle.std.specs.Prelude.{IfOk}
-use Rattle.std.specs.declared.alloc.AllocError.{AllocError}
+use Rattle.std.proofs.Common.{◌≡◌, ℕ, ◌<◌, ◌≤◌, arith, length, length-append, List, [], ◌∷◌, ◌++◌, refl, ap, sym, ◌∙◌, reverse}
 use Rattle.std.proofs.lemmas.List.{reverse-append, reverse-reverse, length-reverse}
 use Rattle.ql_expand.specs.Assembly.{linked, chain, all_linked, with_two, number_core, folded, operands, under, nested, one_bound}
 use Rattle.ql_expand.specs.Core as spec
@@ -39,11 +37,11 @@ operands_few at w n [] h = refl
 operands_few at w n (c ∷ []) h = refl
 operands_few at w n (c ∷ (d ∷ cs)) h = let long : length (reverse (c ∷ (d ∷ cs))) ≡ length (c ∷ (d ∷ cs)) = length-reverse (c ∷ (d ∷ cs)) in absurd (omega arith)
 
-pub operands_more : (at w n : ℕ) (cs ds : List Core) (c : Core) → 2 ≤ length (reverse cs) → reverse cs ≡ ds ++ c ∷ []
+pub operands_more : (at w n : ℕ) (cs mid ds : List Core) (c : Core) → mid ≡ reverse cs → 2 ≤ length mid → mid ≡ ds ++ c ∷ []
     → operands at w n (cores_of cs) ≡ folded at w (core_of c) (cores_of (reverse ds))
-operands_more at w n cs ds c h e =
+operands_more at w n cs mid ds c m h e =
     let long : 1 ≤ length (reverse ds) = omega (arith, length-reverse ds, ap length e, length-append ds (c ∷ [])) in
-    rw (first_of_reversed cs ds c e) (by_second (reverse ds) long)
+    rw (first_of_reversed cs ds c (sym m ∙ e)) (by_second (reverse ds) long)
   where
     by_second : (es : List Core) → 1 ≤ length es → operands at w n (cores_of (c ∷ es)) ≡ folded at w (core_of c) (cores_of es)
     by_second [] k = absurd (omega arith)
@@ -53,20 +51,3 @@ pub nested_last : (at : ℕ) (bs : List Bound) (b : Bound) (c : spec.Core)
     → nested at (bounds_of (bs ++ b ∷ [])) c ≡ under at (bounds_of bs) (core at (binding (one_bound (bound_of b).0 (bound_of b).1) c))
 nested_last at [] b c = refl
 nested_last at (d ∷ bs) b c = under_last at (d ∷ bs) b c
-
-pub on_core : (r : Result Core AllocError) (a b : spec.Core) → a ≡ b → IfOk r (λ c. core_of c ≡ a) → IfOk r (λ c. core_of c ≡ b)
-on_core (Ok c) a b e h = h ∙ e
-on_core (Err x) a b e h = h
-
-pub all_linked_made : (r : Result Core AllocError) (o : Operator) (at : ℕ) (all cs : List Core) (c : Core) (last : spec.Core) → all ≡ cs ++ c ∷ [] → last ≡ core_of c
-    → IfOk r (λ d. core_of d ≡ chain o at (cores_of cs) last) → IfOk r (λ d. core_of d ≡ all_linked o at (cores_of all))
-all_linked_made r o at all cs c last e k h =
-    on_core r (chain o at (cores_of cs) last) (all_linked o at (cores_of all))
-    (ap (chain o at (cores_of cs)) k ∙ sym (all_linked_last o at cs c) ∙ ap (λ ds. all_linked o at (cores_of ds)) (sym e)) h
-
-pub operands_made : (r : Result Core AllocError) (at w n : ℕ) (cs mid ds : List Core) (c : Core) (first : spec.Core) → mid ≡ reverse cs → 2 ≤ length mid → mid ≡ ds ++ c ∷ []
-    → first ≡ core_of c → IfOk r (λ d. core_of d ≡ folded at w first (cores_of (reverse ds))) → IfOk r (λ d. core_of d ≡ operands at w n (cores_of cs))
-operands_made r at w n cs mid ds c first m h e k p =
-    let long : 2 ≤ length (reverse cs) = omega (arith, ap length m) in
-    on_core r (folded at w first (cores_of (reverse ds))) (operands at w n (cores_of cs))
-    (ap (λ f. folded at w f (cores_of (reverse ds))) k ∙ sym (operands_more at w n cs ds c long (sym m ∙ e))) p

@@ -1,8 +1,10 @@
 -- Slices of forms.
-use Rattle.std.proofs.Common.{◌≡◌, ℕ, suc, ◌+◌, ◌<◌, ◌≤◌, List, [], ◌∷◌, length, get_or, drop, refl, sym, ap, ◌∙◌, arith, Option, add-one, drop-cons}
+use Rattle.std.proofs.Common.{◌≡◌, ℕ, suc, ◌+◌, ◌<◌, ◌≤◌, List, [], ◌∷◌, length, get_or, drop, refl, sym, ap, ◌∙◌, arith, Option, Some, None, add-one, drop-cons}
+use Rattle.std.specs.Prelude.{Bool, true, false, ◌==◌, if◌then◌else◌}
 use Rattle.std.proofs.lemmas.List.{drop_all}
+use Rattle.std.proofs.lemmas.Bool.Decides.{nat_tests}
 use Rattle.ql_base.specs.declared.numbers.Offset.{Offset}
-use Rattle.ql_forms.specs.Form.{Form as Datum, count, none, more, list}
+use Rattle.ql_forms.specs.Form.{Form as Datum, Forms, count, none, more, list}
 use Rattle.ql_forms.specs.View.{form_of, forms_of, form_step, tail_of}
 use Rattle.ql_forms.specs.declared.form.Atom.{Atom}
 use Rattle.ql_forms.specs.declared.form.Form.{Form, fold-roll-Form}
@@ -20,6 +22,14 @@ list_seen at fs t = fold-roll-Form Datum form_step (Form-F.List at fs t)
 
 pub item_count_is : (f : Form) (at : Offset) (fs : List Form) (t : Option Atom) → f ≡ vList at fs t → item_count (form_of f) ≡ length fs
 item_count_is f at fs t e = ap item_count (ap form_of e ∙ list_seen at fs t) ∙ as_many fs
+
+-- nil has no items
+pub nil_items : (n : Bool) (fs : Forms) → (if n then Some none else None) ≡ Some fs → none ≡ fs
+nil_items true fs e = cc
+nil_items false fs e = cc
+
+pub not_one : (n : ℕ) → (n + 1 + 1 == 1) ≡ false
+not_one n = grind (arith, nat_tests)
 
 -- the forms from a place on
 pub rest : (fs : List Form) (i : ℕ) (f : Form) → i < length fs → f ≡ get_or fs i f → forms_of (drop i fs) ≡ more (form_of f) (forms_of (drop (i + 1) fs))

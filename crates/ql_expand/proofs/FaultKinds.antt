@@ -4,7 +4,7 @@ use Rattle.std.specs.Prelude.{Bool, true, false, ◌&&◌, ◌||◌, ltb, if◌t
 use Rattle.ql_base.specs.Refusal.{number_of, fault, first_of, least, told, sooner}
 use Rattle.ql_base.specs.declared.refusal.Fault.{Fault}
 use Rattle.ql_base.specs.declared.refusal.FaultKind.TheVariants.{BadTop, ReservedName}
-use Rattle.ql_forms.specs.Form.{Form, Forms, none, more, atom, list, proper, symbol, is_nil, place_of, count}
+use Rattle.ql_forms.specs.Form.{Form, Forms, none, more, atom, list, Tail, proper, symbol, is_nil, place_of, count}
 use Rattle.ql_forms.specs.Numbered.{letters}
 use Rattle.ql_expand.specs.Core.{Binder, binder, named, hidden}
 use Rattle.ql_expand.specs.ExpandFault.{misshapen, under_sugar, parts_of_bindings, fits, variable_faults, function_faults, is_marked, binder_faults, shape_of_parameters, parameters_faults, unless_deep, where_fits, unless_top, form_faults, forms_faults, assignment_faults, bind_faults, binds_faults, binding_faults, form_and_binding_faults, lambda_faults, form_and_lambda_faults, definition_faults, clause_faults, clauses_faults, source_faults, expand_fault}
@@ -92,50 +92,33 @@ body_kinds : (names : List (List ℕ)) (n : ℕ) (ps : Form) (es : Forms) → Of
     → OfForms (parameters_faults names ps ++ forms_faults names n es)
 body_kinds names n ps es h = joined _ _ (parameters_kinds names ps) h
 
--- what is known of the parts of a form, at each level
-record Known (names : List (List ℕ)) (at n : ℕ) (parts : Forms) : Type 0 where
-  forms : OfForms (forms_faults names n parts)
-  assignment : OfForms (assignment_faults names n at parts)
-  bindings : OfForms (binding_faults names n at parts)
-  form_and_bindings : OfForms (form_and_binding_faults names n at parts)
-  parameters : OfForms (lambda_faults names n at parts)
-  form_and_parameters : OfForms (form_and_lambda_faults names n at parts)
-  definition : OfForms (definition_faults names n at parts)
-  clauses : OfForms (clauses_faults names n parts)
-
-applied_kinds : (names : List (List ℕ)) (top : Bool) (n at o w : ℕ) (parts : Forms) (r : Reading) → reading_of (operator_of w) ≡ r → ((m : ℕ) → Known names at m parts)
-    → OfForms (form_faults names top n (list at (more (atom o (symbol w)) parts) proper))
-applied_kinds names top n at o w parts Nothing e k = rw e (deep n at _ (wrong at))
-applied_kinds names top n at o w parts Datum e k = rw e (deep n at _ (fitting (count parts == 1) at [] tt))
-applied_kinds names top n at o w parts (PlainForms low high) e k = rw e (deep n at _ (fitting (fits low high (count parts)) at _ (k (n + 1)).forms))
-applied_kinds names top n at o w parts (SugarForms low high) e k = rw e (deep n at _ (fitting (fits low high (count parts)) at _ (k (under_sugar n (count parts))).forms))
-applied_kinds names top n at o w parts (Operands low) e k =
-    rw e (deep n at _ (fitting (fits low None (count parts)) at _ (k (if count parts == 2 then n + 1 else under_sugar n (count parts))).forms))
-applied_kinds names top n at o w parts Assignment e k = rw e (deep n at _ (k (n + 1)).assignment)
-applied_kinds names top n at o w parts Global e k = rw e (deep n at _ (topmost top at _ (k (n + 1)).assignment))
-applied_kinds names top n at o w parts Bindings e k = rw e (deep n at _ (k (n + 1)).bindings)
-applied_kinds names top n at o w parts SugarBindings e k = rw e (deep n at _ (k (under_sugar n (parts_of_bindings parts))).bindings)
-applied_kinds names top n at o w parts FormAndBindings e k = rw e (deep n at _ (k (n + 1)).form_and_bindings)
-applied_kinds names top n at o w parts Parameters e k = rw e (deep n at _ (k (n + 1)).parameters)
-applied_kinds names top n at o w parts FormAndParameters e k = rw e (deep n at _ (k (n + 1)).form_and_parameters)
-applied_kinds names top n at o w parts Definition e k = rw e (deep n at _ (topmost top at _ (k (n + 1)).definition))
-applied_kinds names top n at o w parts Clauses e k = rw e (deep n at _ (k (under_sugar n (count parts))).clauses)
+-- how the parts after an operator are read
+abbrev reading_in : Forms → Reading
+reading_in (more (atom o (symbol w)) parts) = reading_of (operator_of w)
+reading_in fs = Nothing
 
 mutual
   form_kinds : (names : List (List ℕ)) (top : Bool) (n : ℕ) (f : Form) → OfForms (form_faults names top n f)
   form_kinds names top n (atom at a) = deep n at [] tt
-  form_kinds names top n (list at (more (atom o (symbol w)) parts) proper) =
-      applied_kinds names top n at o w parts (reading_of (operator_of w)) refl (λ m. record {
-        forms = forms_kinds names m parts;
-        assignment = assignment_kinds names m at parts;
-        bindings = binding_kinds names m at parts;
-        form_and_bindings = form_and_binding_kinds names m at parts;
-        parameters = lambda_kinds names m at parts;
-        form_and_parameters = form_and_lambda_kinds names m at parts;
-        definition = definition_kinds names m at parts;
-        clauses = clauses_kinds names m parts;
-      })
-  form_kinds names top n (list at fs t) = wrong at
+  form_kinds names top n (list at fs t) = list_kinds names top n at fs t (reading_in fs) refl
+
+  list_kinds : (names : List (List ℕ)) (top : Bool) (n at : ℕ) (fs : Forms) (t : Tail) (r : Reading) → reading_in fs ≡ r → OfForms (form_faults names top n (list at fs t))
+  list_kinds names top n at (more (atom o (symbol w)) parts) proper Nothing e = rw e (deep n at _ (wrong at))
+  list_kinds names top n at (more (atom o (symbol w)) parts) proper Datum e = rw e (deep n at _ (fitting (count parts == 1) at [] tt))
+  list_kinds names top n at (more (atom o (symbol w)) parts) proper (PlainForms low high) e = rw e (deep n at _ (fitting (fits low high (count parts)) at _ (forms_kinds names (n + 1) parts)))
+  list_kinds names top n at (more (atom o (symbol w)) parts) proper (SugarForms low high) e = rw e (deep n at _ (fitting (fits low high (count parts)) at _ (forms_kinds names (under_sugar n (count parts)) parts)))
+  list_kinds names top n at (more (atom o (symbol w)) parts) proper (Operands low) e =
+      rw e (deep n at _ (fitting (fits low None (count parts)) at _ (forms_kinds names (if count parts == 2 then n + 1 else under_sugar n (count parts)) parts)))
+  list_kinds names top n at (more (atom o (symbol w)) parts) proper Assignment e = rw e (deep n at _ (assignment_kinds names (n + 1) at parts))
+  list_kinds names top n at (more (atom o (symbol w)) parts) proper Global e = rw e (deep n at _ (topmost top at _ (assignment_kinds names (n + 1) at parts)))
+  list_kinds names top n at (more (atom o (symbol w)) parts) proper Bindings e = rw e (deep n at _ (binding_kinds names (n + 1) at parts))
+  list_kinds names top n at (more (atom o (symbol w)) parts) proper SugarBindings e = rw e (deep n at _ (binding_kinds names (under_sugar n (parts_of_bindings parts)) at parts))
+  list_kinds names top n at (more (atom o (symbol w)) parts) proper FormAndBindings e = rw e (deep n at _ (form_and_binding_kinds names (n + 1) at parts))
+  list_kinds names top n at (more (atom o (symbol w)) parts) proper Parameters e = rw e (deep n at _ (lambda_kinds names (n + 1) at parts))
+  list_kinds names top n at (more (atom o (symbol w)) parts) proper FormAndParameters e = rw e (deep n at _ (form_and_lambda_kinds names (n + 1) at parts))
+  list_kinds names top n at (more (atom o (symbol w)) parts) proper Definition e = rw e (deep n at _ (topmost top at _ (definition_kinds names (n + 1) at parts)))
+  list_kinds names top n at (more (atom o (symbol w)) parts) proper Clauses e = rw e (deep n at _ (clauses_kinds names (under_sugar n (count parts)) parts))
+  list_kinds names top n at fs t r e = wrong at
 
   forms_kinds : (names : List (List ℕ)) (n : ℕ) (fs : Forms) → OfForms (forms_faults names n fs)
   forms_kinds names n none = tt

@@ -7,7 +7,7 @@ use Rattle.ql_forms.specs.declared.form.Form.{Form}
 use Rattle.ql_base.specs.declared.refusal.Fault.{Fault}
 use Rattle.ql_expand.specs.Building.{weight, weights, IsFine, AreFine, IsFineBind, AreFineBinds, IsFineClause, AreFineClauses, HasParameters, IsFineSplit, Fits, fits_datum, fits_forms, fits_assignment, fits_let, fits_let_star, fits_qlet, fits_lambda, fits_qlambda, fits_clauses, allows}
 use Rattle.ql_expand.specs.Core.{Binder}
-use Rattle.ql_expand.specs.ExpandFault.{misshapen as bad_shape, unless_deep, form_faults, forms_faults, bind_faults, binds_faults, clause_faults, clauses_faults, variable_faults, function_faults, parameters_faults, shape_of_parameters}
+use Rattle.ql_expand.specs.ExpandFault.{misshapen as bad_shape, unless_deep, form_faults, forms_faults, clauses_faults, parameters_faults, shape_of_parameters}
 use Rattle.ql_expand.specs.Expands.{applied, parameters_in}
 use Rattle.ql_expand.specs.Operator.{operator_of, reading_of}
 use Rattle.ql_expand.specs.Parts.{Split, misshapen, datum, forms, assignment, bindings, form_and_bindings, parameters, form_and_parameters, definition, clauses, parts_by, datum_by, assignment_by, bindings_by, with_binds, form_and_bindings_by, after, parameters_by, form_and_parameters_by, bind_in, clause_in}
@@ -18,9 +18,9 @@ use Rattle.ql_expand.proofs.Splits.{form_is, bind_is, clause_is}
 
 -- ---- no faults
 
-pub neither : (xs ys : List Fault) → xs ++ ys ≡ [] → (xs ≡ []) × (ys ≡ [])
-neither [] ys e = (refl, e)
-neither (x ∷ xs) ys e = cc
+pub neither : {xs ys : List Fault} → xs ++ ys ≡ [] → (xs ≡ []) × (ys ≡ [])
+neither {xs = []} e = (refl, e)
+neither {xs = x ∷ xs} e = cc
 
 pub undeep : (n at : ℕ) (xs : List Fault) → unless_deep n at xs ≡ [] → xs ≡ []
 undeep n at xs = by_depth (ltb 400 n)
@@ -40,20 +40,15 @@ fine_split : (names : List (List ℕ)) (n at : ℕ) (s : Split) → split_faults
 fine_split names n at misshapen e = cc
 fine_split names n at (datum f) e = tt
 fine_split names n at (forms fs) e = (names, n, e)
-fine_split names n at (assignment o v f) e = (names, n, (neither (variable_faults o v) (form_faults names false n f) e).1)
-fine_split names n at (bindings bs es) e =
-    let both = neither (binds_faults names n bs) (forms_faults names n es) e in ((names, n, both.0), (names, n, both.1))
+fine_split names n at (assignment o v f) e = (names, n, (neither e).1)
+fine_split names n at (bindings bs es) e = let both = neither e in ((names, n, both.0), (names, n, both.1))
 fine_split names n at (form_and_bindings f bs es) e =
-    let both = neither (form_faults names false n f) (binds_faults names n bs ++ forms_faults names n es) e in
-    let rest = neither (binds_faults names n bs) (forms_faults names n es) both.1 in ((names, n, both.0), (names, n, rest.0), (names, n, rest.1))
-fine_split names n at (parameters ps es) e =
-    let both = neither (parameters_faults names ps) (forms_faults names n es) e in (has_parameters names ps both.0, (names, n, both.1))
+    let both = neither e in let rest = neither both.1 in ((names, n, both.0), (names, n, rest.0), (names, n, rest.1))
+fine_split names n at (parameters ps es) e = let both = neither e in (has_parameters names ps both.0, (names, n, both.1))
 fine_split names n at (form_and_parameters f ps es) e =
-    let both = neither (form_faults names false n f) (parameters_faults names ps ++ forms_faults names n es) e in
-    let rest = neither (parameters_faults names ps) (forms_faults names n es) both.1 in ((names, n, both.0), has_parameters names ps rest.0, (names, n, rest.1))
+    let both = neither e in let rest = neither both.1 in ((names, n, both.0), has_parameters names ps rest.0, (names, n, rest.1))
 fine_split names n at (definition o v ps es) e =
-    let both = neither (function_faults o v) (parameters_faults names ps ++ forms_faults names n es) e in
-    let rest = neither (parameters_faults names ps) (forms_faults names n es) both.1 in (has_parameters names ps rest.0, (names, n, rest.1))
+    let both = neither e in let rest = neither both.1 in (has_parameters names ps rest.0, (names, n, rest.1))
 fine_split names n at (clauses cs) e = (names, n, e)
 
 -- ---- the parts fit
@@ -117,7 +112,7 @@ pub fine_operation : (names : List (List ℕ)) (top : Bool) (n at o w : ℕ) (fs
 fine_operation names top n at o w fs h =
     let q = reading_of (operator_of w) in
     let none_in = undeep n at (top_faults top at q ++ split_faults names (level_below q n fs) at (parts_by q fs)) (sym (form_is names top n (applied at o w fs)) ∙ h) in
-    let both = neither (top_faults top at q) (split_faults names (level_below q n fs) at (parts_by q fs)) none_in in (both.0, fine_split names (level_below q n fs) at (parts_by q fs) both.1)
+    let both = neither none_in in (both.0, fine_split names (level_below q n fs) at (parts_by q fs) both.1)
 
 -- What the parts of a form are that has no fault, split as its operator reads them.
 pub parts_fit : (at o w : ℕ) (fs : Forms) (r : Operator) (s : Split) → IsFine (applied at o w fs) → r ≡ operator_of w → s ≡ parts_by (reading_of r) fs
@@ -131,7 +126,7 @@ pub bind_parts : (f : Datum) {e : Datum} {v : ℕ × ℕ} → bind_in f ≡ Some
 bind_parts f {e = e} {v = v} k (names, n, h) =
     let b : bound_faults names n (place_of f) (Some (v, Some e)) ≡ [] =
     ap (bound_faults names n (place_of f)) (sym k) ∙ undeep n (place_of f) (bound_faults names n (place_of f) (bind_in f)) (sym (bind_is names n f) ∙ h) in
-    (names, n + 1, (neither (variable_faults v.0 v.1) (form_faults names false (n + 1) e) b).1)
+    (names, n + 1, (neither b).1)
 
 pub clause_shape : (f c : Datum) (es : Forms) → clause_in f ≡ Some (c, es) → (p : ℕ) × (f ≡ list p (more c es) proper)
 clause_shape (list p (more b is) proper) c es h =
@@ -142,17 +137,17 @@ pub clause_parts : (f : Datum) {c : Datum} {es : Forms} → clause_in f ≡ Some
 clause_parts f {c = c} {es = es} k (names, n, h) =
     let b : tested_faults names n (place_of f) (Some (c, es)) ≡ [] =
     ap (tested_faults names n (place_of f)) (sym k) ∙ undeep n (place_of f) (tested_faults names n (place_of f) (clause_in f)) (sym (clause_is names n f) ∙ h) in
-    let both = neither (form_faults names false (n + 1) c) (forms_faults names (n + 1) es) b in
+    let both = neither b in
     let size = ap weight (clause_shape f c es k).1 in (omega (arith, size), ((names, n + 1, both.0), (names, n + 1, both.1)))
 
 -- ---- one of some forms
 
 pub fine_first : (f : Datum) (fs : Forms) → AreFine (more f fs) → IsFine f × AreFine fs
-fine_first f fs (names, n, h) = let both = neither (form_faults names false n f) (forms_faults names n fs) h in ((names, n, both.0), (names, n, both.1))
+fine_first f fs (names, n, h) = let both = neither h in ((names, n, both.0), (names, n, both.1))
 
 pub clauses_parts : {f : Datum} {fs gs : Forms} → gs ≡ more f fs → AreFineClauses gs → (weights gs ≡ weight f + 1 + weights fs) × (IsFineClause f × AreFineClauses fs)
 clauses_parts {f = f} {fs = fs} e (names, n, h) =
-    let both = neither (clause_faults names n f) (clauses_faults names n fs) (ap (clauses_faults names n) (sym e) ∙ h) in (ap weights e, ((names, n, both.0), (names, n, both.1)))
+    let both = neither (ap (clauses_faults names n) (sym e) ∙ h) in (ap weights e, ((names, n, both.0), (names, n, both.1)))
 
 -- Where a fact of some forms is one of the first and one of the others, it is one of each.
 pub at_place : (P : Forms → Type 0) (Q : Datum → Type 0) → ((f : Datum) (fs : Forms) → P (more f fs) → Q f × P fs)
@@ -162,7 +157,7 @@ at_place P Q step (y ∷ xs) zero x h k e = rw e (step (form_of y) (forms_of xs)
 at_place P Q step (y ∷ xs) (suc i) x h k e = let within : i < length xs = omega arith in at_place P Q step xs i x (step (form_of y) (forms_of xs) h).1 within e
 
 fine_first_bind : (f : Datum) (fs : Forms) → AreFineBinds (more f fs) → IsFineBind f × AreFineBinds fs
-fine_first_bind f fs (names, n, h) = let both = neither (bind_faults names n f) (binds_faults names n fs) h in ((names, n, both.0), (names, n, both.1))
+fine_first_bind f fs (names, n, h) = let both = neither h in ((names, n, both.0), (names, n, both.1))
 
 pub fine_at : (xs : List Form) (i : ℕ) (x : Form) → AreFine (forms_of xs) → i < length xs → x ≡ get_or xs i x → IsFine (form_of x)
 fine_at = at_place AreFine IsFine fine_first
@@ -172,9 +167,9 @@ fine_bind_at = at_place AreFineBinds IsFineBind fine_first_bind
 
 before_last : (names : List (List ℕ)) (n : ℕ) (xs : List Form) (x : Form) → forms_faults names n (forms_of (xs ++ x ∷ [])) ≡ []
     → (forms_faults names n (forms_of xs) ≡ []) × (form_faults names false n (form_of x) ≡ [])
-before_last names n [] x h = (refl, (neither (form_faults names false n (form_of x)) [] h).0)
+before_last names n [] x h = (refl, (neither h).0)
 before_last names n (y ∷ xs) x h =
-    let both = neither (form_faults names false n (form_of y)) (forms_faults names n (forms_of (xs ++ x ∷ []))) h in
+    let both = neither {xs = form_faults names false n (form_of y)} h in
     let rest = before_last names n xs x both.1 in (rw (both.0, rest.0) refl, rest.1)
 
 pub fine_before : (xs : List Form) (x : Form) → AreFine (forms_of (xs ++ x ∷ [])) → AreFine (forms_of xs) × IsFine (form_of x)

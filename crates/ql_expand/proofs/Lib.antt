@@ -8,8 +8,7 @@ pub mod Fine
 pub mod Gathering
 pub mod Loops
 pub mod Making
-pub mod Numbers
-pub mod Primitives
+pub mod Programs
 pub mod Splits
 mod TopForms
 pub mod Unique

@@ -1,7 +1,6 @@
 -- What forms expand to whose parts are expanded.
-use Rattle.std.proofs.Common.{◌≡◌, ℕ, ◌+◌, ◌≤◌, List, Option, Some, None, refl, sym, ap, ◌∙◌, subst, arith}
+use Rattle.std.proofs.Common.{◌≡◌, ℕ, ◌≤◌, List, Option, Some, None, refl, sym, ap, ◌∙◌, subst, arith}
 use Rattle.std.specs.Prelude.{Bool, true, false, nat_le, ◌==◌, ◌&&◌, if◌then◌else◌}
-use Rattle.std.proofs.lemmas.Bool.Decides.{nat_tests}
 use Rattle.std.proofs.lemmas.Bool.{leb-true, and_parts}
 use Rattle.ql_base.specs.Reserved.{number}
 use Rattle.ql_base.specs.declared.reserved.Reserved.{Reserved}
@@ -15,6 +14,7 @@ use Rattle.ql_expand.specs.Expands.{applied, nil_at, one, two, parameters_in, no
 use Rattle.ql_expand.specs.Operator.{operator_of, reserved_operator, reading_of, takes_two, is_arithmetic, is_constant}
 use Rattle.ql_expand.specs.Parts as parts
 use Rattle.ql_expand.specs.Parts.{clause_in}
+use Rattle.ql_expand.proofs.Counts.{nil_items, not_one}
 use Rattle.ql_expand.proofs.Fine.{clause_shape}
 use Rattle.ql_expand.specs.declared.assemble.Way.TheVariants as ways
 use Rattle.ql_expand.specs.declared.operator.Operator.{Operator}
@@ -108,9 +108,6 @@ or_made : {d : Bool} {at o w : ℕ} {fs : Forms} {cs : Cores} → operator_of w 
 or_made {at = at} e k none_left = sugar (or_none e) (nil_made at)
 or_made e k (one_more x none_left) = rw (k refl) (sugar (or_one e) x)
 or_made e k (one_more x (one_more y ys)) = or_more e x (or_made (word_is OrWord) (λ _. refl) (one_more y ys))
-
-not_one : (n : ℕ) → (n + 1 + 1 == 1) ≡ false
-not_one n = grind (arith, nat_tests)
 
 -- A single form of `and` or `or` is dropped where the whole is, and of more forms each is used.
 linked_made : {d : Bool} {at o w : ℕ} {fs : Forms} {cs : Cores} (build : Cores → Core) → ((count fs ≡ 1 → d ≡ false) → Each fs cs → Expands d (applied at o w fs) (build cs))
@@ -229,10 +226,6 @@ nested_made e (one_bound x none_bound) y = sugar (let_star_one e) (bound (word_i
 nested_made e (one_bound x (one_bound z zs)) y =
     sugar (let_star_more e) (bound (word_is LetWord) refl (one_bound x none_bound) (one_form (nested_made (word_is LetStarWord) (one_bound z zs) y)))
 
-nil_items : (n : Bool) (bs : Forms) → (if n then Some none else None) ≡ Some bs → bs ≡ none
-nil_items true bs h = cc
-nil_items false bs h = cc
-
 none_nested : {d : Bool} {at o w : ℕ} {b : Form} {bs es : Forms} {ns : Bounds} {c : Core} → operator_of w ≡ LetStar → items_of b ≡ Some none → bs ≡ none → Binds bs ns → Body at es c
     → Expands d (applied at o w (more b es)) (nested at ns c)
 none_nested e h k none_bound y = sugar (let_star_none e h) (bound (word_is LetWord) h none_bound y)
@@ -242,7 +235,7 @@ let_star_made : {d : Bool} {at o w : ℕ} (b : Form) (bs : Forms) {es : Forms} {
     → Expands d (applied at o w (more b es)) (nested at ns c)
 let_star_made (list p fs proper) bs e h x y = let same : fs ≡ bs = cc in rw same (nested_made e x y)
 let_star_made (list p fs (dotted t)) bs e h x y = cc
-let_star_made (atom p a) bs e h x y = let none_is = nil_items (is_nil a) bs h in none_nested e (h ∙ ap Some none_is) none_is x y
+let_star_made (atom p a) bs e h x y = let none_is = sym (nil_items (is_nil a) bs h) in none_nested e (h ∙ ap Some none_is) none_is x y
 
 -- ---- parts that fit
 

@@ -1,13 +1,13 @@
 -- What is wrong with a form is what is wrong in its parts.
-use Rattle.std.proofs.Common.{◌≡◌, ℕ, ◌+◌, ◌≤◌, List, [], ◌++◌, Option, Some, None, refl, ap, ◌∙◌, arith}
+use Rattle.std.proofs.Common.{◌≡◌, ℕ, ◌+◌, ◌≤◌, List, [], ◌++◌, Option, Some, None, refl, ap, ◌∙◌}
 use Rattle.std.specs.Prelude.{is_some, Bool, true, false, if◌then◌else◌, ◌==◌, ltb}
 use Rattle.std.proofs.lemmas.Bool.{le-ltb}
-use Rattle.std.proofs.lemmas.Bool.Decides.{nat_tests}
 use Rattle.ql_forms.specs.Form.{Form, Forms, none, more, atom, list, Tail, proper, dotted, symbol, integer, is_nil, items_of, operation_in, place_of, count}
 use Rattle.ql_base.specs.Refusal.{fault, unless}
 use Rattle.ql_base.specs.declared.refusal.Fault.{Fault}
 use Rattle.ql_base.specs.declared.refusal.FaultKind.TheVariants.{BadTop}
 use Rattle.ql_expand.specs.ExpandFault.{misshapen, unless_deep, unless_top, parts_of_bindings, where_fits, fits, under_sugar, form_faults, forms_faults, assignment_faults, binding_faults, form_and_binding_faults, lambda_faults, form_and_lambda_faults, definition_faults, bind_faults, clause_faults, shape_of_parameters, parameter_faults, parameters_faults}
+use Rattle.ql_expand.proofs.Counts.{not_one}
 use Rattle.ql_expand.specs.Core.{Binder}
 use Rattle.ql_expand.specs.Expands.{binders_in, with_binder}
 use Rattle.ql_expand.specs.Operator.{operator_of, reading_of}
@@ -16,9 +16,6 @@ use Rattle.ql_expand.specs.Parts.{forms_by, datum_by, assignment_by, with_binds,
 use Rattle.ql_expand.specs.Searching.{split_faults, shallow_faults, operation_faults, read_faults, bound_faults, tested_faults, symbols_faults}
 use Rattle.ql_expand.specs.declared.operator.Reading.{Reading}
 use Rattle.ql_expand.specs.declared.operator.Reading.TheVariants.{Nothing, Datum, Forms as PlainForms, SugarForms, Operands, Assignment, Global, Bindings, SugarBindings, FormAndBindings, Parameters, FormAndParameters, Definition, Clauses}
-
-not_one : (n : ℕ) → (n + 1 + 1 == 1) ≡ false
-not_one n = grind (arith, nat_tests)
 
 datum_is : (names : List (List ℕ)) (n at : ℕ) (fs : Forms) → where_fits (count fs == 1) at [] ≡ split_faults names n at (datum_by fs)
 datum_is names n at (more f none) = refl

@@ -1,62 +1,83 @@
 -- Top forms, one after another.
-use Rattle.std.proofs.Common.{◌≡◌, ℕ, ◌+◌, ◌<◌, ◌≤◌, List, [], ◌++◌, drop, length, get_or, map, Some, None, Option, refl, sym, ap, ◌∙◌, subst, arith}
+use Rattle.std.proofs.Common.{◌≡◌, ℕ, ◌+◌, ◌<◌, ◌≤◌, List, [], ◌∷◌, ◌++◌, drop, length, get_or, map, Some, None, Option, refl, sym, ap, ◌∙◌, subst, arith}
 use Rattle.std.specs.Prelude.{true, false}
-use Rattle.std.proofs.lemmas.List.{append-nil}
+use Rattle.std.proofs.lemmas.List.{append-nil, append_assoc}
 use Rattle.std.proofs.lemmas.Option.{slice_get_within}
 use Rattle.ql_base.specs.Names.{BeginsWithReserved}
 use Rattle.ql_forms.specs.Form.{Form as Datum, Forms, none, more, atom, list, symbol, integer, operation_in, place_of}
 use Rattle.ql_forms.specs.View.{form_of, forms_of}
 use Rattle.ql_forms.specs.declared.form.Form.{Form}
 use Rattle.ql_expand.specs.Building.{IsFine, IsFineSplit}
-use Rattle.ql_expand.specs.Core.{Cores, no_cores, joined_cores}
+use Rattle.ql_expand.specs.Core as spec
+use Rattle.ql_expand.specs.Core.{Cores, no_cores, and_core, core, defvar}
 use Rattle.ql_expand.specs.ExpandFault.{form_faults, source_faults, unless_deep}
-use Rattle.ql_expand.specs.Expands.{TopForms, no_tops}
+use Rattle.ql_expand.specs.Expands.{applied, parameters_in, Expands, Body, TopForms, no_tops, top_function, top_global, top_form}
 use Rattle.ql_expand.specs.Operator.{operator_of, reading_of}
 use Rattle.ql_expand.specs.Parts.{definition, assignment, definition_by, assignment_by, parts_by}
 use Rattle.ql_expand.specs.Searching.{split_faults, operation_faults, top_faults, level_below}
-use Rattle.ql_expand.specs.Tops.{IsFineTop, Adds, Made, with_function, with_global, with_core}
-use Rattle.ql_expand.specs.View.{cores_of, function_of}
+use Rattle.ql_expand.specs.Tops.{IsFineTop, Adds, Made}
+use Rattle.ql_expand.specs.View.{binders_of, core_of, cores_of, function_of}
+use Rattle.ql_expand.specs.declared.core_form.Core.{Core}
+use Rattle.ql_expand.specs.declared.core_form.Function.{Function}
 use Rattle.ql_expand.specs.declared.operator.Operator.{Operator}
 use Rattle.ql_expand.specs.declared.operator.Operator.TheVariants.{Defun, Defvar}
 use Rattle.ql_expand.specs.declared.operator.Reading.{Reading}
 use Rattle.ql_expand.specs.declared.operator.Reading.TheVariants.{Global, Definition}
-use Rattle.ql_expand.specs.declared.top.Top.{Top}
 use Rattle.ql_expand.specs.declared.top.Tops.{Tops}
 use Rattle.ql_expand.proofs.Fine.{neither, fine_operation, at_place}
 use Rattle.ql_expand.proofs.Built.{operation_shape}
 use Rattle.ql_expand.proofs.Splits.{form_is}
 use Rattle.ql_expand.proofs.Counts.{rest, nothing_left}
-use Rattle.ql_expand.proofs.Gathering.{cores_alone}
+use Rattle.ql_expand.proofs.Gathering.{cores_last, cores_alone}
 
 -- a top form at a place has no fault
 pub fine_top_at : (names : List (List ℕ)) (xs : List Form) (i : ℕ) (x : Form) → source_faults names (forms_of xs) ≡ [] → i < length xs → x ≡ get_or xs i x → IsFineTop (form_of x)
 fine_top_at names =
-    at_place (λ fs. source_faults names fs ≡ []) IsFineTop (λ f fs h. let both = neither (form_faults names true 1 f) (source_faults names fs) h in ((names, both.0), both.1))
+    at_place (λ fs. source_faults names fs ≡ []) IsFineTop (λ f fs h. let both = neither h in ((names, both.0), both.1))
 
-pub made_next : (all : List Form) (i : ℕ) (x : Form) (t u : Tops) (top : Top) → Made all i t → i < length all → x ≡ get_or all i x → Adds (form_of x) top
-    → ((after : List _) → map function_of u.functions ++ after ≡ map function_of t.functions ++ with_function top after)
-    → ((after : List ℕ) → u.globals ++ after ≡ t.globals ++ with_global top after)
-    → ((after : Cores) → joined_cores (cores_of u.body) after ≡ joined_cores (cores_of t.body) (with_core top after)) → Made all (i + 1) u
-made_next all i x t u top made lt e adds f g b fs ns cs h =
-    rw (f fs, g ns, b cs) (made (with_function top fs) (with_global top ns) (with_core top cs)
-    (subst (λ z. TopForms z (with_function top fs) (with_global top ns) (with_core top cs)) (sym (rest all i x lt e)) (adds (forms_of (drop (i + 1) all)) fs ns cs h)))
+pub made_next : (all : List Form) (i : ℕ) (x : Form) (t u : Tops) → Made (forms_of all) (forms_of (drop i all)) t → i < length all → x ≡ get_or all i x → Adds (form_of x) t u
+    → Made (forms_of all) (forms_of (drop (i + 1) all)) u
+made_next all i x t u made lt e adds = adds (forms_of all) (forms_of (drop (i + 1) all)) (subst (λ fs. Made (forms_of all) fs t) (rest all i x lt e) made)
 
-pub made_all : (all : List Form) (i : ℕ) (t : Tops) → Made all i t → length all ≤ i → TopForms (forms_of all) (map function_of t.functions) t.globals (cores_of t.body)
+pub made_all : (all : List Form) (i : ℕ) (t : Tops) → Made (forms_of all) (forms_of (drop i all)) t → length all ≤ i
+    → TopForms (forms_of all) (map function_of t.functions) t.globals (cores_of t.body)
 made_all all i t made le =
-    let end : TopForms (forms_of (drop i all)) [] [] no_cores = subst (λ z. TopForms z [] [] no_cores) (sym (nothing_left all i le)) no_tops in
-    let whole = made [] [] no_cores end in
+    let whole = subst (λ fs. Made (forms_of all) fs t) (nothing_left all i le) made [] [] no_cores no_tops in
     rw (← append-nil (map function_of t.functions), ← append-nil t.globals, ← cores_alone t.body) whole
 
+-- ---- what a top form adds
+
 -- what reads as a definition is one
-pub definition_is : (fs : Forms) (o v : ℕ) (ps : Datum) (es : Forms) → definition o v ps es ≡ definition_by fs → fs ≡ more (atom o (symbol v)) (more ps es)
+definition_is : (fs : Forms) (o v : ℕ) (ps : Datum) (es : Forms) → definition o v ps es ≡ definition_by fs → fs ≡ more (atom o (symbol v)) (more ps es)
 definition_is (more (atom p (symbol w)) (more qs gs)) o v ps es e = cc
 definition_is (more (atom p (integer z)) (more qs gs)) o v ps es e = cc
 definition_is (more (list p hs t) (more qs gs)) o v ps es e = cc
 definition_is fs o v ps es e = cc
 
-pub assignment_is : (fs : Forms) (o v : ℕ) (f : Datum) → assignment o v f ≡ assignment_by fs → fs ≡ more (atom o (symbol v)) (more f none)
+assignment_is : (fs : Forms) (o v : ℕ) (f : Datum) → assignment o v f ≡ assignment_by fs → fs ≡ more (atom o (symbol v)) (more f none)
 assignment_is (more (atom p (symbol w)) (more g none)) o v f e = cc
 assignment_is fs o v f e = cc
+
+functions_last : (fs : List Function) (f : Function) (gs : List spec.Function) → map function_of (fs ++ f ∷ []) ++ gs ≡ map function_of fs ++ function_of f ∷ gs
+functions_last [] f gs = refl
+functions_last (e ∷ fs) f gs = ap (λ hs. function_of e ∷ hs) (functions_last fs f gs)
+
+pub form_added : {f : Datum} (t : Tops) (c : Core) (now : List Core) → Expands false f (core_of c) → now ≡ t.body ++ c ∷ []
+    → Adds f t (record { functions = t.functions; globals = t.globals; body = now })
+form_added t c now x e all others made fs ns cs h = rw (e, cores_last t.body c cs) (made fs ns (and_core (core_of c) cs) (top_form x h))
+
+pub function_added : {ps : Datum} {es fs : Forms} {a v p : ℕ} (o w : ℕ) (t : Tops) (f : Function) (now : List Function) → now ≡ t.functions ++ f ∷ [] → operator_of w ≡ Defun
+    → definition p v ps es ≡ definition_by fs → f.at.0 ≡ a → f.name ≡ v → f.named.0 ≡ p → parameters_in ps ≡ Some (binders_of f.params) → Body a es (core_of f.body)
+    → Adds (applied a o w fs) t (record { functions = now; globals = t.globals; body = t.body })
+function_added {ps = ps} {es = es} {fs = gs} {a = a} {v = v} {p = p} o w t f now e k d q n m i y all others made fs ns cs h =
+    rw (e, functions_last t.functions f fs) (made (function_of f ∷ fs) ns cs (rw (q, n, m, definition_is gs p v ps es d) (top_function k i y h)))
+
+pub global_added : {g : Datum} {fs : Forms} {a v p : ℕ} (o w : ℕ) (t : Tops) (c : Core) (x : spec.Core) (names : List ℕ) (now : List Core) → now ≡ t.body ++ c ∷ [] → names ≡ t.globals ++ v ∷ []
+    → core_of c ≡ core a (defvar v p x) → operator_of w ≡ Defvar → assignment p v g ≡ assignment_by fs → Expands false g x
+    → Adds (applied a o w fs) t (record { functions = t.functions; globals = names; body = now })
+global_added {g = g} {fs = gs} {v = v} {p = p} o w t c x names now e l is k d y all others made fs ns cs h =
+    rw (l, append_assoc t.globals (v ∷ []) ns, e, cores_last t.body c cs)
+    (made fs (v ∷ ns) (and_core (core_of c) cs) (rw (is, assignment_is gs p v g d) (top_global k y h)))
 
 -- the parts of a top form without a fault
 fine_parts : (f : Datum) (p w : ℕ) (fs : Forms) → IsFineTop f → operation_in f ≡ Some ((p, w), fs) → IsFineSplit (parts_by (reading_of (operator_of w)) fs)

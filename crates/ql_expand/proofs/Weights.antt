@@ -1,17 +1,13 @@
 -- How large forms are, and their parts.
-use Rattle.std.proofs.Common.{◌≡◌, ℕ, zero, suc, ◌+◌, ◌<◌, ◌≤◌, List, [], ◌∷◌, ◌++◌, ◌∙◌, length, get_or, sym, ap, subst, arith, Some, None}
-use Rattle.std.specs.Prelude.{Bool, true, false, if◌then◌else◌}
-use Rattle.ql_forms.specs.Form.{Form as Datum, Forms, none, proper, dotted, atom, list, is_nil, items_of}
+use Rattle.std.proofs.Common.{◌≡◌, ℕ, zero, suc, ◌+◌, ◌<◌, ◌≤◌, List, [], ◌∷◌, ◌++◌, ◌∙◌, length, get_or, sym, ap, subst, arith, Some}
+use Rattle.ql_forms.specs.Form.{Form as Datum, Forms, proper, dotted, atom, list, is_nil, items_of}
 use Rattle.ql_forms.specs.View.{form_of, forms_of}
 use Rattle.ql_forms.specs.declared.form.Form.{Form}
 use Rattle.ql_expand.specs.Building.{IsFine, AreFine, weight, weights, split_weight, Fits, fits_datum, fits_forms, fits_assignment, fits_let, fits_let_star, fits_qlet, fits_lambda, fits_qlambda, fits_clauses}
 use Rattle.ql_expand.specs.Parts.{Split}
+use Rattle.ql_expand.proofs.Counts.{nil_items}
 use Rattle.ql_expand.proofs.Fine.{fine_before}
 use Rattle.ql_expand.specs.declared.operator.Operator.{Operator}
-
-nil_items : (n : Bool) (fs : Forms) → (if n then Some none else None) ≡ Some fs → none ≡ fs
-nil_items true fs e = cc
-nil_items false fs e = cc
 
 weight_items : (f : Datum) (fs : Forms) → items_of f ≡ Some fs → weights fs + 1 ≤ weight f
 weight_items (list at gs proper) fs e = let s : gs ≡ fs = cc in rw s (omega arith)

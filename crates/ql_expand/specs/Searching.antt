@@ -1,6 +1,6 @@
 -- What is wrong in parts that are split. It serves the proofs.
-use Rattle.std.specs.Prelude.{ℕ, ◌+◌, ◌==◌, Bool, false, if◌then◌else◌, List, [], ◌++◌, Option, Some, None}
-use Rattle.ql_base.specs.Refusal.{fault, unless}
+use Rattle.std.specs.Prelude.{◌≡◌, ℕ, ◌+◌, ◌==◌, Bool, false, if◌then◌else◌, List, [], ◌++◌, Option, Some, None}
+use Rattle.ql_base.specs.Refusal.{fault, first_of, unless}
 use Rattle.ql_base.specs.declared.refusal.Fault.{Fault}
 use Rattle.ql_base.specs.declared.refusal.FaultKind.TheVariants.{BadTop}
 use Rattle.ql_forms.specs.Form.{Form, Forms, none, more, symbol_in, is_atom, operation_in, place_of, count}
@@ -9,6 +9,7 @@ use Rattle.ql_expand.specs.Operator.{operator_of, reading_of}
 use Rattle.ql_expand.specs.Parts as parts
 use Rattle.ql_expand.specs.Parts.{Split, parts_by, bind_in, clause_in}
 use Rattle.ql_expand.specs.declared.operator.Reading.{Reading}
+use Rattle.ql_expand.specs.declared.search.Search.{Search}
 use Rattle.ql_expand.specs.declared.operator.Reading.TheVariants.{SugarForms, Operands, Global, SugarBindings, Definition, Clauses}
 
 -- the level of the parts that are read like this
@@ -68,3 +69,7 @@ named_faults names (Some v) = parameter_faults names v.0 v.1
 abbrev pub symbols_faults : List (List ℕ) → Forms → List Fault
 symbols_faults names none = []
 symbols_faults names (more f fs) = named_faults names (symbol_in f) ++ symbols_faults names fs
+
+-- The search has gone on past these faults, and has its names still.
+abbrev pub Past : Search → Search → List Fault → Type 0
+Past s t faults = (t.names ≡ s.names) × (t.first ≡ first_of s.first faults)

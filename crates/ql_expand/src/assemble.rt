@@ -4,7 +4,7 @@ ghost use Rattle.std.specs.Prelude.{◌≡◌, IfOk, [], ◌∷◌, reverse};
 ghost use Rattle.ql_base.specs.Reserved.{number};
 ghost use Rattle.ql_forms.specs.View.{atom_of, form_of};
 ghost use Rattle.ql_forms.specs.Form.{atom};
-ghost use Rattle.ql_expand.specs.Assembly.{one_bound, nil_core, number_core, true_core, atom_core, with_one, with_two, either, linked, chain, of_none, all_linked, folded, operands, under, nested, let_core, before_body, of_each, way_of};
+ghost use Rattle.ql_expand.specs.Assembly.{one_bound, nil_core, atom_core, with_one, with_two, either, linked, chain, all_linked, folded, operands, under, nested, let_core, before_body, of_each, way_of};
 ghost use Rattle.ql_expand.specs.Core.{binder, binding, call, core, constant, conditional, funcall, hidden, lambda, named, primitive, print, progn, qlambda, qlet, setq, variable};
 ghost use Rattle.ql_expand.specs.View.{binders_of, bound_of, bounds_of, core_of, cores_of, name_of, node_of};
 
@@ -115,16 +115,10 @@ impl Maker {
     {
         match value {
             Atom::Int(_) => self.constant(value),
-            Atom::Sym(number) => self.word(number),
-        }
-    }
-
-    fn word<'a>(self, number: u32) -> Core<'a>
-        ensures { core_of result ≡ atom_core self.at.0 (atom_of (Atom.Sym number)) }
-    {
-        match operator_of(number) {
-            Operator::Constant => self.constant(Atom::Sym(number)),
-            _ => self.variable(VarName::Sym(number)),
+            Atom::Sym(number) => match operator_of(number) {
+                Operator::Constant => self.constant(value),
+                _ => self.variable(VarName::Sym(number)),
+            },
         }
     }
 
@@ -139,7 +133,13 @@ impl Maker {
     pub fn boxed_nil<'a>(self) -> Result<Child<'a>, AllocError>
         ensures { IfOk result (λ c. core_of c ≡ nil_core self.at.0) }
     {
-        Boxed::new(self.alloc, self.nil())
+        self.boxed(self.nil())
+    }
+
+    fn boxed<'a>(self, value: Core<'a>) -> Result<Child<'a>, AllocError>
+        ensures { IfOk result (λ c. core_of c ≡ core_of value.entry) }
+    {
+        Boxed::new(self.alloc, value)
     }
 
     fn primitive<'a>(self, op: u32, args: Items<Core<'a>>) -> Core<'a>
@@ -148,18 +148,13 @@ impl Maker {
         self.core(Node::Prim { op, args })
     }
 
-    // A primitive that sugar adds.
-    fn word_primitive<'a>(self, op: Reserved, args: Vec<Core<'a>>) -> Core<'a>
-        ensures { core_of result ≡ core self.at.0 (primitive (number op) (cores_of args.entry.items)) }
+    // Whether a primitive that sugar adds has the value nil.
+    fn negated<'a>(self, op: Reserved, args: Vec<Core<'a>>) -> Made<'a>
+        ensures { IfOk result (λ c. core_of c ≡ with_one self.at.0 (number Reserved.Null) (core self.at.0 (primitive (number op) (cores_of args.entry.items)))) }
     {
-        self.primitive(op.number(), Items::from_vec(args))
-    }
-
-    fn with_one<'a>(self, op: Reserved, value: Core<'a>) -> Made<'a>
-        ensures { IfOk result (λ c. core_of c ≡ with_one self.at.0 (number op) (core_of value.entry)) }
-    {
-        let args = one_item(self.alloc, value)?;
-        Ok(self.primitive(op.number(), args))
+        let value = self.primitive(op.number(), Items::from_vec(args));
+        let value = one_item(self.alloc, value)?;
+        Ok(self.primitive(Reserved::Null.number(), value))
     }
 
     fn with_two<'a>(self, op: u32, first: Core<'a>, second: Core<'a>) -> Made<'a>
@@ -197,15 +192,6 @@ impl Maker {
         Ok(self.binding(binds, body))
     }
 
-    // A form and a boxed rest, of `and`.
-    fn both<'a>(self, first: Core<'a>, rest: Child<'a>) -> Made<'a>
-        ensures { IfOk result (λ c. core_of c ≡ linked Operator.And self.at.0 (core_of first.entry) (core_of rest.entry)) }
-    {
-        let first = Boxed::new(self.alloc, first)?;
-        let nil = self.boxed_nil()?;
-        Ok(self.conditional(first, rest, nil))
-    }
-
     // A form before the rest of `and`, `or` or `list`.
     fn linked<'a>(
         self,
@@ -216,11 +202,15 @@ impl Maker {
         ensures { IfOk result (λ c. core_of c ≡ linked operator self.at.0 (core_of first.entry) (core_of rest.entry)) }
     {
         let core = match operator {
-            Operator::And => self.both(first, rest),
-            Operator::Or => self.either(first, rest),
-            _ => self.with_two(Reserved::Cons.number(), first, rest.into_inner()),
+            Operator::And => {
+                let first = self.boxed(first)?;
+                let nil = self.boxed_nil()?;
+                self.conditional(first, rest, nil)
+            }
+            Operator::Or => self.either(first, rest)?,
+            _ => self.with_two(Reserved::Cons.number(), first, rest.into_inner())?,
         };
-        Boxed::new(self.alloc, core?)
+        self.boxed(core)
     }
 
     // Forms before the rest, from the last one.
@@ -236,25 +226,18 @@ impl Maker {
         Ok(whole.into_inner())
     }
 
-    // What `and` and `or` of no forms are.
-    fn of_none<'a>(self, operator: Operator) -> Core<'a>
-        ensures { core_of result ≡ of_none operator self.at.0 }
-    {
-        match operator {
-            Operator::And => self.constant(Atom::Sym(Reserved::True.number())),
-            _ => self.nil(),
-        }
-    }
-
     // Forms of `and` or `or`, of which the last is the rest.
     #[tactic(auto, using(crate::proofs::Assembles::all_linked_last))]
     fn all_linked<'a>(self, operator: Operator, mut cores: Vec<Core<'a>>) -> Made<'a>
         ensures { IfOk result (λ c. core_of c ≡ all_linked operator self.at.0 (cores_of cores.entry.items)) }
     {
         match cores.pop() {
-            None => Ok(self.of_none(operator)),
+            None => match operator {
+                Operator::And => Ok(self.constant(Atom::Sym(Reserved::True.number()))),
+                _ => Ok(self.nil()),
+            },
             Some(last) => {
-                let last = Boxed::new(self.alloc, last)?;
+                let last = self.boxed(last)?;
                 self.chain(operator, cores, last)
             }
         }
@@ -275,7 +258,7 @@ impl Maker {
     }
 
     // Operands of an operator of two, with the number that stands before a single one.
-    #[tactic(auto, using(crate::proofs::Assembles::operands_few))]
+    #[tactic(auto, using(crate::proofs::Assembles::operands_few, crate::proofs::Assembles::operands_more))]
     fn operands<'a>(self, op: u32, unit: u8, mut cores: Vec<Core<'a>>) -> Made<'a>
         ensures { IfOk result (λ c. core_of c ≡ operands self.at.0 op unit (cores_of cores.entry.items)) }
     {
@@ -287,7 +270,7 @@ impl Maker {
         match cores.pop() {
             None => unreachable!(),
             Some(first) => {
-                let first = Boxed::new(self.alloc, first)?;
+                let first = self.boxed(first)?;
                 self.folded(op, first, cores)
             }
         }
@@ -380,31 +363,18 @@ impl Maker {
         match operator {
             Operator::Sum | Operator::Difference => self.operands(head.number, 0, cores),
             Operator::Product => self.operands(head.number, 1, cores),
-            Operator::Not => Ok(self.word_primitive(Reserved::Null, cores)),
-            Operator::AtMost => self.with_one(
-                Reserved::Null,
-                self.word_primitive(Reserved::Greater, cores),
-            ),
-            Operator::AtLeast => self.with_one(
-                Reserved::Null,
-                self.word_primitive(Reserved::Less, cores),
-            ),
+            Operator::Not => Ok(self.primitive(Reserved::Null.number(), Items::from_vec(cores))),
+            Operator::AtMost => self.negated(Reserved::Greater, cores),
+            Operator::AtLeast => self.negated(Reserved::Less, cores),
             Operator::And | Operator::Or => self.all_linked(operator, cores),
             Operator::List => self.chain(operator, cores, self.boxed_nil()?),
-            Operator::Call => Ok(self.call(head, cores)),
+            Operator::Call => Ok(self.core(Node::Call {
+                name: head.number,
+                named: head.at,
+                args: Items::from_vec(cores),
+            })),
             _ => Ok(self.primitive(head.number, Items::from_vec(cores))),
         }
-    }
-
-    // A call of a function by its name.
-    fn call<'a>(self, function: Symbol, args: Vec<Core<'a>>) -> Core<'a>
-        ensures { core_of result ≡ core self.at.0 (call function.number function.at.0 (cores_of args.entry.items)) }
-    {
-        self.core(Node::Call {
-            name: function.number,
-            named: function.at,
-            args: Items::from_vec(args),
-        })
     }
 
     /// A datum as a constant.

@@ -1,7 +1,7 @@
 //! The core of forms that have no fault.
 
-ghost use Rattle.std.specs.Prelude.{◌≡◌, ◌≤◌, ◌+◌, ◌++◌, ◌∷◌, [], IfOk, MatchOption, Some, false, length, true};
-ghost use Rattle.ql_forms.specs.Form.{Forms as Data, atom, more, none, count, place_of};
+ghost use Rattle.std.specs.Prelude.{◌≡◌, ◌≤◌, ◌+◌, IfOk, MatchOption, Some, false, true};
+ghost use Rattle.ql_forms.specs.Form.{Forms as Data, atom, more, count, place_of};
 ghost use Rattle.ql_forms.specs.View.{atom_of, form_of, forms_of};
 ghost use Rattle.ql_expand.specs.Building.{IsList, IsFine, AreFine, IsFineBind, AreFineBinds, IsFineClause, AreFineClauses, HasParameters, HasBinders, IsFineSplit, Fits, allows, passes, Clauses, EachOf, weight, weights, split_weight};
 ghost use Rattle.ql_expand.specs.Core.{binder, named};
@@ -13,7 +13,7 @@ ghost use Rattle.ql_expand.specs.View.{binders_of, bound_of, bounds_of, core_of,
 use crate::assemble::{Child, Made, Maker, Way, way_of};
 use crate::core_form::{Binder, Bound, Core, VarName};
 use crate::operator::{Operator, operator_of};
-use crate::parts::{Parts, bind_of, clause_of, parts_of};
+use crate::parts::{Parts, bind_of, clause_of, read};
 use ql_base::numbers::Offset;
 use ql_forms::form::{Atom, Form, Symbol, first_of};
 use sqlite_items::{Boxed, Items};
@@ -64,7 +64,7 @@ fn fitting<'a>(at: Offset, head: Symbol, parts: &'a [Form]) -> Parts<'a>
     ensures fits { Fits (operator_of head.number) (forms_of parts.now) (split_of result) }
     ensures size { split_weight (split_of result) ≤ weights (forms_of parts.now) }
 {
-    parts_of(operator_of(head.number), parts)
+    read(operator_of(head.number).reading(), parts)
 }
 
 // A list with this operator.

@@ -9,13 +9,13 @@ ghost use Rattle.ql_expand.specs.Expands.{ExpandsTo};
 ghost use Rattle.ql_expand.specs.Primitives.{program_has_primitives};
 
 /// A program has the numbers that stand in the forms, and some of reserved words.
-#[tactic(auto, using(crate::proofs::Numbers::program_has))]
+#[tactic(auto, using(crate::proofs::Programs::has_numbers))]
 pub fn expanded_numbers()
     ensures { (n : ℕ) (forms : Forms) (p : Program) → ExpandsTo forms p → 46 ≤ n → forms_below n forms ≡ true → program_below n p ≡ true }
 {}
 
 /// Each primitive of a program is one, and has as many operands as it takes.
-#[tactic(auto, using(crate::proofs::Primitives::program_has))]
+#[tactic(auto, using(crate::proofs::Programs::primitives_are))]
 pub fn expanded_primitives()
     ensures { (forms : Forms) (p : Program) → ExpandsTo forms p → program_has_primitives p ≡ true }
 {}

@@ -1,7 +1,7 @@
 //! What the words at the head of a list are, and what parts they want.
 
 ghost use Rattle.std.specs.Prelude.{◌≡◌};
-ghost use Rattle.ql_expand.specs.Operator.{operator_of, reading_of, reserved_operator};
+ghost use Rattle.ql_expand.specs.Operator.{operator_of, reading_of};
 
 use ql_base::reserved::Reserved;
 
@@ -92,60 +92,54 @@ pub fn operator_of(number: u32) -> Operator
     ensures { result ≡ operator_of number }
 {
     match Reserved::of_number(number) {
-        Some(word) => reserved_operator(word),
         None => Operator::Call,
-    }
-}
-
-fn reserved_operator(word: Reserved) -> Operator
-    ensures { result ≡ reserved_operator word }
-{
-    match word {
-        Reserved::Nil | Reserved::True => Operator::Constant,
-        Reserved::Quote => Operator::Quote,
-        Reserved::Eager => Operator::Call,
-        Reserved::Defun => Operator::Defun,
-        Reserved::Defvar => Operator::Defvar,
-        Reserved::Lambda => Operator::Lambda,
-        Reserved::Qlambda => Operator::Qlambda,
-        Reserved::Setq => Operator::Setq,
-        Reserved::If => Operator::If,
-        Reserved::Progn => Operator::Progn,
-        Reserved::Let => Operator::Let,
-        Reserved::Qlet => Operator::Qlet,
-        Reserved::Catch => Operator::Catch,
-        Reserved::Qcatch => Operator::Qcatch,
-        Reserved::Throw => Operator::Throw,
-        Reserved::UnwindProtect => Operator::Protect,
-        Reserved::Funcall => Operator::Funcall,
-        Reserved::Print => Operator::Print,
-        Reserved::Cons
-        | Reserved::Eq
-        | Reserved::Truncate
-        | Reserved::Rem
-        | Reserved::Equal
-        | Reserved::Less
-        | Reserved::Greater => Operator::Binary,
-        Reserved::Car
-        | Reserved::Cdr
-        | Reserved::Null
-        | Reserved::Atom
-        | Reserved::Consp
-        | Reserved::Numberp
-        | Reserved::Symbolp => Operator::Unary,
-        Reserved::Not => Operator::Not,
-        Reserved::Plus => Operator::Sum,
-        Reserved::Minus => Operator::Difference,
-        Reserved::Times => Operator::Product,
-        Reserved::AtMost => Operator::AtMost,
-        Reserved::AtLeast => Operator::AtLeast,
-        Reserved::Cond => Operator::Cond,
-        Reserved::And => Operator::And,
-        Reserved::Or => Operator::Or,
-        Reserved::When => Operator::When,
-        Reserved::Unless => Operator::Unless,
-        Reserved::LetStar => Operator::LetStar,
-        Reserved::List => Operator::List,
+        Some(word) => match word {
+            Reserved::Nil | Reserved::True => Operator::Constant,
+            Reserved::Quote => Operator::Quote,
+            Reserved::Eager => Operator::Call,
+            Reserved::Defun => Operator::Defun,
+            Reserved::Defvar => Operator::Defvar,
+            Reserved::Lambda => Operator::Lambda,
+            Reserved::Qlambda => Operator::Qlambda,
+            Reserved::Setq => Operator::Setq,
+            Reserved::If => Operator::If,
+            Reserved::Progn => Operator::Progn,
+            Reserved::Let => Operator::Let,
+            Reserved::Qlet => Operator::Qlet,
+            Reserved::Catch => Operator::Catch,
+            Reserved::Qcatch => Operator::Qcatch,
+            Reserved::Throw => Operator::Throw,
+            Reserved::UnwindProtect => Operator::Protect,
+            Reserved::Funcall => Operator::Funcall,
+            Reserved::Print => Operator::Print,
+            Reserved::Cons
+            | Reserved::Eq
+            | Reserved::Truncate
+            | Reserved::Rem
+            | Reserved::Equal
+            | Reserved::Less
+            | Reserved::Greater => Operator::Binary,
+            Reserved::Car
+            | Reserved::Cdr
+            | Reserved::Null
+            | Reserved::Atom
+            | Reserved::Consp
+            | Reserved::Numberp
+            | Reserved::Symbolp => Operator::Unary,
+            Reserved::Not => Operator::Not,
+            Reserved::Plus => Operator::Sum,
+            Reserved::Minus => Operator::Difference,
+            Reserved::Times => Operator::Product,
+            Reserved::AtMost => Operator::AtMost,
+            Reserved::AtLeast => Operator::AtLeast,
+            Reserved::Cond => Operator::Cond,
+            Reserved::And => Operator::And,
+            Reserved::Or => Operator::Or,
+            Reserved::When => Operator::When,
+            Reserved::Unless => Operator::Unless,
+            Reserved::LetStar => Operator::LetStar,
+            Reserved::List => Operator::List,
+        }
     }
 }
 

@@ -3,10 +3,9 @@
 ghost use Rattle.std.specs.Prelude.{◌≡◌, MatchOption, Some, None, option_map};
 ghost use Rattle.ql_forms.specs.View.{form_of, forms_of};
 ghost use Rattle.ql_expand.specs.ExpandFault.{fits};
-ghost use Rattle.ql_expand.specs.Operator.{reading_of};
 ghost use Rattle.ql_expand.specs.Parts.{split_of, parts_by, bind_in, with_value, clause_in, only_in, datum_by, forms_by, assignment_by, bindings_by, form_and_bindings_by, parameters_by, form_and_parameters_by, definition_by};
 
-use crate::operator::{Operator, Reading};
+use crate::operator::Reading;
 use ql_forms::form::{Form, Symbol, first_of};
 
 /// The parts of a list after its operator, as they fit the shape that the operator wants.
@@ -48,13 +47,6 @@ pub enum Parts<'a> {
         body: &'a [Form],
     },
     Clauses(&'a [Form]),
-}
-
-/// The parts after this operator.
-pub fn parts_of<'a>(operator: Operator, parts: &'a [Form]) -> Parts<'a>
-    ensures { split_of result ≡ parts_by (reading_of operator) (forms_of parts.now) }
-{
-    read(operator.reading(), parts)
 }
 
 /// The parts that are read like this.

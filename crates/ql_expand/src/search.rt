@@ -1,14 +1,13 @@
 //! The first fault of the forms of a source.
 
-ghost use Rattle.std.specs.Prelude.{◌≡◌, ◌≤◌, is_some};
-ghost use Rattle.ql_base.specs.Refusal.{least, first_of};
-ghost use Rattle.ql_forms.specs.Form.{operation_in, place_of};
+ghost use Rattle.std.specs.Prelude.{◌≡◌, is_some};
+ghost use Rattle.ql_base.specs.Refusal.{least};
 ghost use Rattle.ql_forms.specs.View.{form_of, forms_of};
 ghost use Rattle.ql_expand.specs.ExpandFault.{misshapen, variable_faults, function_faults, is_marked, parameter_faults, parameters_faults, form_faults, forms_faults, bind_faults, binds_faults, clause_faults, clauses_faults, source_faults};
 ghost use Rattle.ql_expand.specs.Expands.{binders_in};
 ghost use Rattle.ql_expand.specs.Operator.{operator_of};
 ghost use Rattle.ql_expand.specs.Parts.{split_of};
-ghost use Rattle.ql_expand.specs.Searching.{top_faults, split_faults, operation_faults, symbols_faults};
+ghost use Rattle.ql_expand.specs.Searching.{Past, top_faults, split_faults, symbols_faults};
 
 use crate::level::{DEEPEST, level_below};
 use crate::operator::{Operator, Reading, operator_of};
@@ -62,16 +61,14 @@ struct Search<'a> {
 
 impl<'a> Search<'a> {
     fn bad_shape(&mut self, at: Offset)
-        ensures first { self.new.first ≡ first_of self.old.first (misshapen at.0) }
-        ensures names { self.new.names ≡ self.old.names }
+        ensures { Past self.old self.new (misshapen at.0) }
     {
         find(&mut self.first, FaultKind::BadShape, at);
     }
 
     // The name of a variable.
     fn variable(&mut self, symbol: Symbol)
-        ensures first { self.new.first ≡ first_of self.old.first (variable_faults symbol.at.0 symbol.number) }
-        ensures names { self.new.names ≡ self.old.names }
+        ensures { Past self.old self.new (variable_faults symbol.at.0 symbol.number) }
     {
         let is_constant = matches!(operator_of(symbol.number), Operator::Constant);
         find_if(
@@ -84,8 +81,7 @@ impl<'a> Search<'a> {
 
     // The name of a function.
     fn function(&mut self, symbol: Symbol)
-        ensures first { self.new.first ≡ first_of self.old.first (function_faults symbol.at.0 symbol.number) }
-        ensures names { self.new.names ≡ self.old.names }
+        ensures { Past self.old self.new (function_faults symbol.at.0 symbol.number) }
     {
         let is_call = matches!(operator_of(symbol.number), Operator::Call);
         find_if(
@@ -97,8 +93,7 @@ impl<'a> Search<'a> {
     }
 
     fn parameter(&mut self, symbol: Symbol)
-        ensures first { self.new.first ≡ first_of self.old.first (parameter_faults self.old.names.now symbol.at.0 symbol.number) }
-        ensures names { self.new.names ≡ self.old.names }
+        ensures { Past self.old self.new (parameter_faults self.old.names.now symbol.at.0 symbol.number) }
     {
         if is_marked(self.names.letters(symbol.number)) {
             self.bad_shape(symbol.at);
@@ -110,8 +105,7 @@ impl<'a> Search<'a> {
     // A parameter list.
     #[tactic(auto, using(crate::proofs::Splits::symbols_in))]
     fn parameters(&mut self, params: &Form)
-        ensures first { self.new.first ≡ first_of self.old.first (parameters_faults self.old.names.now (form_of params.now)) }
-        ensures names { self.new.names ≡ self.old.names }
+        ensures { Past self.old self.new (parameters_faults self.old.names.now (form_of params.now)) }
     {
         match params.items() {
             Some(items) if are_symbols(items) => self.symbols(items),
@@ -121,8 +115,7 @@ impl<'a> Search<'a> {
 
     // The symbols among these as parameters.
     fn symbols(&mut self, forms: &[Form])
-        ensures first { self.new.first ≡ first_of self.old.first (symbols_faults self.old.names.now (forms_of forms.now)) }
-        ensures names { self.new.names ≡ self.old.names }
+        ensures { Past self.old self.new (symbols_faults self.old.names.now (forms_of forms.now)) }
     {
         for form in forms {
             if let Some(symbol) = form.symbol() {
@@ -133,8 +126,7 @@ impl<'a> Search<'a> {
 
     // A definition that is no top form.
     fn definition(&mut self, top: bool, at: Offset, reading: Reading)
-        ensures first { self.new.first ≡ first_of self.old.first (top_faults top at.0 reading) }
-        ensures names { self.new.names ≡ self.old.names }
+        ensures { Past self.old self.new (top_faults top at.0 reading) }
     {
         if let Reading::Global | Reading::Definition = reading {
             find_if(&mut self.first, !top, FaultKind::BadTop, at);
@@ -143,8 +135,7 @@ impl<'a> Search<'a> {
 
     #[tactic(auto, using(ql_base::specs::Refusal::first_appended, crate::proofs::Counts::rest))]
     fn tops(&mut self, forms: &[Form])
-        ensures first { self.new.first ≡ first_of self.old.first (source_faults self.old.names.now (forms_of forms.now)) }
-        ensures names { self.new.names ≡ self.old.names }
+        ensures { Past self.old self.new (source_faults self.old.names.now (forms_of forms.now)) }
     {
         for form in forms {
             self.form(true, 1, form);
@@ -152,41 +143,28 @@ impl<'a> Search<'a> {
     }
 
     #[cycle(search)]
-    #[tactic(auto, using(crate::proofs::Splits::shallow_form))]
+    #[tactic(auto, using(ql_base::specs::Refusal::first_appended, crate::proofs::Splits::shallow_form))]
     fn form(&mut self, top: bool, level: u128, form: &Form)
-        ensures first { self.new.first ≡ first_of self.old.first (form_faults self.old.names.now top level (form_of form.now)) }
-        ensures names { self.new.names ≡ self.old.names }
-    {
-        if level > DEEPEST {
-            self.bad_shape(form.offset());
-        } else if !form.is_atom() {
-            self.list(top, level, form);
-        }
-    }
-
-    // A list that isn't too deep.
-    #[cycle(search)]
-    #[tactic(auto, using(ql_base::specs::Refusal::first_appended))]
-    fn list(&mut self, top: bool, level: u128, form: &Form)
-        requires { level ≤ 400 }
-        ensures first { self.new.first ≡ first_of self.old.first (operation_faults self.old.names.now top level (place_of (form_of form.now)) (operation_in (form_of form.now))) }
-        ensures names { self.new.names ≡ self.old.names }
+        ensures { Past self.old self.new (form_faults self.old.names.now top level (form_of form.now)) }
     {
         let at = form.offset();
-        let Some((head, parts)) = form.operation() else {
+        if level > DEEPEST {
             self.bad_shape(at);
-            return;
-        };
-        let reading = operator_of(head.number).reading();
-        self.definition(top, at, reading);
-        self.parts(level_below(reading, level, parts), at, read(reading, parts));
+        } else if !form.is_atom() {
+            let Some((head, parts)) = form.operation() else {
+                self.bad_shape(at);
+                return;
+            };
+            let reading = operator_of(head.number).reading();
+            self.definition(top, at, reading);
+            self.parts(level_below(reading, level, parts), at, read(reading, parts));
+        }
     }
 
     #[cycle(search)]
     #[tactic(auto, using(ql_base::specs::Refusal::first_appended))]
     fn parts(&mut self, level: u128, at: Offset, parts: Parts)
-        ensures first { self.new.first ≡ first_of self.old.first (split_faults self.old.names.now level at.0 (split_of parts.entry)) }
-        ensures names { self.new.names ≡ self.old.names }
+        ensures { Past self.old self.new (split_faults self.old.names.now level at.0 (split_of parts.entry)) }
     {
         match parts {
             Parts::Misshapen => self.bad_shape(at),
@@ -226,8 +204,7 @@ impl<'a> Search<'a> {
     #[cycle(search)]
     #[tactic(auto, using(ql_base::specs::Refusal::first_appended, crate::proofs::Counts::rest))]
     fn forms(&mut self, level: u128, forms: &[Form])
-        ensures first { self.new.first ≡ first_of self.old.first (forms_faults self.old.names.now level (forms_of forms.now)) }
-        ensures names { self.new.names ≡ self.old.names }
+        ensures { Past self.old self.new (forms_faults self.old.names.now level (forms_of forms.now)) }
     {
         for form in forms {
             self.form(false, level, form);
@@ -238,29 +215,23 @@ impl<'a> Search<'a> {
     #[cycle(search)]
     #[tactic(auto, using(ql_base::specs::Refusal::first_appended, crate::proofs::Splits::shallow_bind))]
     fn bind(&mut self, level: u128, bind: &Form)
-        ensures first { self.new.first ≡ first_of self.old.first (bind_faults self.old.names.now level (form_of bind.now)) }
-        ensures names { self.new.names ≡ self.old.names }
+        ensures { Past self.old self.new (bind_faults self.old.names.now level (form_of bind.now)) }
     {
-        let at = bind.offset();
-        if level > DEEPEST {
-            self.bad_shape(at);
-            return;
-        }
-        let Some(bound) = bind_of(bind) else {
-            self.bad_shape(at);
-            return;
-        };
-        self.variable(bound.variable);
-        if let Some(value) = bound.value {
-            self.form(false, level + 1, value);
+        match bind_of(bind) {
+            Some(bound) if level <= DEEPEST => {
+                self.variable(bound.variable);
+                if let Some(value) = bound.value {
+                    self.form(false, level + 1, value);
+                }
+            }
+            _ => self.bad_shape(bind.offset()),
         }
     }
 
     #[cycle(search)]
     #[tactic(auto, using(ql_base::specs::Refusal::first_appended, crate::proofs::Counts::rest))]
     fn binds(&mut self, level: u128, binds: &[Form])
-        ensures first { self.new.first ≡ first_of self.old.first (binds_faults self.old.names.now level (forms_of binds.now)) }
-        ensures names { self.new.names ≡ self.old.names }
+        ensures { Past self.old self.new (binds_faults self.old.names.now level (forms_of binds.now)) }
     {
         for bind in binds {
             self.bind(level, bind);
@@ -271,27 +242,21 @@ impl<'a> Search<'a> {
     #[cycle(search)]
     #[tactic(auto, using(ql_base::specs::Refusal::first_appended, crate::proofs::Splits::shallow_clause))]
     fn clause(&mut self, level: u128, clause: &Form)
-        ensures first { self.new.first ≡ first_of self.old.first (clause_faults self.old.names.now level (form_of clause.now)) }
-        ensures names { self.new.names ≡ self.old.names }
+        ensures { Past self.old self.new (clause_faults self.old.names.now level (form_of clause.now)) }
     {
-        let at = clause.offset();
-        if level > DEEPEST {
-            self.bad_shape(at);
-            return;
+        match clause_of(clause) {
+            Some((test, others)) if level <= DEEPEST => {
+                self.form(false, level + 1, test);
+                self.forms(level + 1, others);
+            }
+            _ => self.bad_shape(clause.offset()),
         }
-        let Some((test, others)) = clause_of(clause) else {
-            self.bad_shape(at);
-            return;
-        };
-        self.form(false, level + 1, test);
-        self.forms(level + 1, others);
     }
 
     #[cycle(search)]
     #[tactic(auto, using(ql_base::specs::Refusal::first_appended, crate::proofs::Counts::rest))]
     fn clauses(&mut self, level: u128, clauses: &[Form])
-        ensures first { self.new.first ≡ first_of self.old.first (clauses_faults self.old.names.now level (forms_of clauses.now)) }
-        ensures names { self.new.names ≡ self.old.names }
+        ensures { Past self.old self.new (clauses_faults self.old.names.now level (forms_of clauses.now)) }
     {
         for clause in clauses {
             self.clause(level, clause);

@@ -19,9 +19,6 @@ invariant-clauses-loop-clause l =
     (l.self.names ≡ l.fn.self.names)
     × (first_of l.self.first (clauses_faults l.fn.self.names.now l.level (forms_of (drop l.clause-index l.clauses))) ≡ first_of l.fn.self.first (clauses_faults l.fn.self.names.now l.level (forms_of l.clauses)))
 
-abbrev pub decreases-list : goal.decreases-list
-decreases-list l = 6 * (402 - l.level) + 0
-
 abbrev pub decreases-form : goal.decreases-form
 decreases-form l = 6 * (402 - l.level) + 1
 
