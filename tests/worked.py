@@ -1,7 +1,7 @@
 #!/usr/bin/env python3
 """Writes worked programs for ql_meaning and ql_compile, from runs that another implementation gave.
 
-    tests/vectors.py RUNS WORD=NAME ..
+    tests/worked.py RUNS WORD=NAME ..
 
 RUNS is a list of runs in JSON, each with a name, the words of the call, the source, and the output and the journal that
 it gave. For each run that is NAMEd this prints a definition WORD, as it stands in crates/ql_meaning/specs/Worked.antt:
