@@ -17,14 +17,7 @@ use Rattle.ql_world.specs.Operator.{operator_of}
 use Rattle.ql_meaning.specs.Context.{same_name, place_of, function_called}
 use Rattle.ql_compile.specs.Compile.{count}
 use Rattle.ql_compile.proofs.Compilable.{is_bound, is_global, is_seen, has_parameters, has_operands, is_right, is_right_node, are_right, are_right_values, are_right_functions, is_compilable}
-use Rattle.ql_compile.proofs.Cases.{cases}
-
-abbrev Goes : Bool → Bool → Type 0
-Goes a b = a ≡ true → b ≡ true
-
-both : (a b c d : Bool) → Goes a c → Goes b d → Goes (a && b) (c && d)
-both true b c d f g h = rw (f refl) (g h)
-both false b c d f g h = absurd cc
+use Rattle.ql_compile.proofs.Cases.{cases, Goes, both}
 
 same_names : (x y : Name) → scope.same_name x y ≡ same_name x y
 same_names (named v) (named w) = refl

@@ -9,6 +9,7 @@ use Rattle.ql_expand.specs.Core.{Binder, Core, core, Node, constant, variable, s
 use Rattle.ql_expand.specs.Primitives.{count_of}
 use Rattle.ql_scope.specs.Scope.{Place, offset_of, core_at, name_at, binders_in, under, use_faults, count_faults, parameter_count, called_faults, binder_faults, binders_faults, list_faults, seventeenth_faults, core_faults, node_faults, cores_faults, arguments_faults, values_faults, functions_faults, top, InScope, repeated_functions, repeated_globals}
 use Rattle.ql_compile.specs.Compile.{count}
+use Rattle.ql_compile.proofs.Cases.{Goes, both}
 use Rattle.ql_compile.proofs.Sized.{is_named, is_sized, is_sized_node, are_sized, are_sized_values, is_sized_top, are_sized_tops, are_sized_functions, is_sized_program}
 use Rattle.ql_compile.proofs.Assigns.{assigns, node_assigns, all_assign, values_assign, top_assigns, tops_assign, functions_assign, program_assigns}
 
@@ -21,15 +22,8 @@ right : (xs ys : List Fault) → xs ++ ys ≡ [] → ys ≡ []
 right [] ys h = h
 right (x ∷ xs) ys h = absurd cc
 
-abbrev Goes : Bool → Bool → Type 0
-Goes a b = a ≡ true → b ≡ true
-
 same : (b : Bool) → Goes b b
 same b h = h
-
-both : (a b c d : Bool) → Goes a c → Goes b d → Goes (a && b) (c && d)
-both true b c d f g h = rw (f refl) (g h)
-both false b c d f g h = absurd cc
 
 besides : (b c d : Bool) → b ≡ true → Goes c d → Goes c (b && d)
 besides b c d h g k = rw h (g k)

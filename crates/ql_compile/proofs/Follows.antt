@@ -20,6 +20,7 @@ use Rattle.ql_compile.proofs.Along.{Along, front, back, both}
 use Rattle.ql_compile.proofs.Sizes.{long, long_cores, long_values, long_joined}
 use Rattle.ql_compile.proofs.Noted.{Here, on, with_value, with_values, same_start, only, or_else, either, kinds_of, Note, note, kinds, with_kinds, inner_scope, body_shape, noted, noted_node, noted_cores, noted_values, noted_joined, noted_forms, same, same_cores, same_values, same_joined}
 use Rattle.ql_compile.proofs.Cases.{cases}
+use Rattle.ql_compile.proofs.Counts.{starts_length}
 use Rattle.ql_compile.proofs.SlotKinds.{found, kinds_slots, slots_over, over_onto, over_long, over_slots, kinds_bound, caught_there, kinds_caught, mask_fits, variables_are, under_them, values_more, slots_kinds}
 use Rattle.ql_compile.proofs.Fine.{Readable, Writable, IsCalled, IsPrimitive, Fine, FineNode, FineCores, FineValues, FineForms}
 
@@ -309,10 +310,6 @@ module _ (k : Code) (t : Table) (x : Context) (places : Places) where
   with_function : (n : ℕ) (sh : Shape) → under (values (suc n)) (values n ++ (value ∷ sh)) ≡ Some sh
   with_function n sh = rw (values_more n sh) (take_values (suc n) sh)
 
-  starts_long : (pc : ℕ) (bs : Bounds) → length (starts_of pc bs) ≡ length (binders_in bs)
-  starts_long pc no_bounds = refl
-  starts_long pc (and_bound b c bs) = ap suc (starts_long (pc + size c + 1) bs)
-
   comes_kinds : (lo hi : ℕ) (bs : List Binder) (h : Here) (sc : Scope) → Comes h sc lo hi → Comes (with_kinds x places bs h) (inner_scope x places bs sc) lo hi
   comes_kinds lo hi bs h sc m = comes_on (over (kinds x places bs)) h sc (inner_scope x places bs sc) lo hi
       (λ sh e. slots_over (stored_among x bs) sh ∙ (ap (over (kinds x places bs)) e ∙ sym (kinds_bound bs (stored_among x bs) sc (stored_long bs)))) m
@@ -499,12 +496,12 @@ module _ (k : Code) (t : Table) (x : Context) (places : Places) where
         both IsKept pc np _ (size p) (len h sc pc p)
         (kept lo hi h sc pc p f.0 m (omega (arith, w), omega (arith, w)) (front Stands pc np _ a) (here _ _ _ r.0)) (
           kept_on (λ sh. value ∷ sh) h (qlet (starts_of (q + 1) bs) (j + 1) (j + 1 + 1)) at q
-              (λ s sh e. leads s q (value ∷ sh) sh (instruction (qlet (starts_of (q + 1) bs) (j + 1) (j + 1 + 1)) at) (rw (starts_long (q + 1) bs) (le-leb (length v) 16 f.2)) refl (
+              (λ s sh e. leads s q (value ∷ sh) sh (instruction (qlet (starts_of (q + 1) bs) (j + 1) (j + 1 + 1)) at) (rw (starts_length (q + 1) bs) (le-leb (length v) 16 f.2)) refl (
                 ej s sh e,
                 (
-                  rw (starts_long (q + 1) bs) (et s (values (length v) ++ sh) (rw e)),
+                  rw (starts_length (q + 1) bs) (et s (values (length v) ++ sh) (rw e)),
                   (
-                    rw (starts_long (q + 1) bs) (eb s (values (length v) ++ sh) (rw e)),
+                    rw (starts_length (q + 1) bs) (eb s (values (length v) ++ sh) (rw e)),
                     children_stand lo hi h sc (q + 1) (j + 1) 0 sh bs m.bounds (omega (arith, w)) (m.slots s sh e) refl (front Stands (q + 1) nj _ r.1),
                   ),
                 ),

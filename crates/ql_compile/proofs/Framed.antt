@@ -251,10 +251,10 @@ whole_code cs fs a b c d none ea eb ec =
     let i : Instruction = instruction end 0 in
     let c1 : c ≡ followed a (T ++ i ∷ []) = and_then a b c T (i ∷ []) ea eb in
     let d1 : d ≡ followed a ((T ++ i ∷ []) ++ functions_code fs (followed a (T ++ i ∷ []))) = emits_then (functions_code fs) a c d (T ++ i ∷ []) c1 ec in
-    let T0 = code_of_tops x p 0 cs in
-    let k : length T0 ≡ size_of_tops cs = tops_length a 0 cs in
-    let place : length (T0 ++ i ∷ []) ≡ size_of_tops cs + 1 = omega (arith, k, length-append {A = Instruction}) in
+    let tops = code_of_tops x p 0 cs in
+    let k : length tops ≡ size_of_tops cs = tops_length a 0 cs in
+    let place : length (tops ++ i ∷ []) ≡ size_of_tops cs + 1 = omega (arith, k, length-append {A = Instruction}) in
     let F = λ (n : ℕ). code_of_functions x p (places_from n fs) in
     ap (λ e. e.output) d1
     ∙ (ap (λ o. o ++ ((code_of_tops x p (length o) cs ++ i ∷ []) ++ F (length (o ++ (code_of_tops x p (length o) cs ++ i ∷ []))))) none
-    ∙ (append_assoc T0 (i ∷ []) (F (length (T0 ++ i ∷ []))) ∙ ap (λ n. T0 ++ i ∷ F n) place))
+    ∙ (append_assoc tops (i ∷ []) (F (length (tops ++ i ∷ []))) ∙ ap (λ n. tops ++ i ∷ F n) place))

@@ -11,9 +11,7 @@ use Rattle.ql_expand.specs.View.{core_of, cores_of}
 use Rattle.ql_expand.specs.declared.core_form.Core as declared
 use Rattle.ql_scope.specs.Scope.{binders_in}
 use Rattle.ql_meaning.specs.Context.{Context, context_of, offset_of, stored_among}
-use Rattle.ql_code.specs.Code as spec
-use Rattle.ql_code.specs.Code.{Instruction, instruction}
-use Rattle.ql_code.specs.declared.code.Op.{Op}
+use Rattle.ql_code.specs.Code.{Instruction}
 use Rattle.ql_compile.specs.Laws.{IsTooLong}
 use Rattle.ql_compile.specs.Compile.{compiled, Scope, Places, size, size_of_values, size_of_joined, size_of_tops, code, code_of_node, code_of_cores, code_of_forms, code_of_values, code_of_joined, code_of_tops, code_of_functions, body_scope, with_variables, instructions_of, places_from, places_of}
 use Rattle.ql_compile.specs.Measure.{counted, offsets_of, offsets_of_cores, offsets_of_forms, offsets_of_functions, offsets_of_joined, offsets_of_node, offsets_of_tops, offsets_of_values, with_one}
@@ -163,12 +161,6 @@ pub ats_of_program : (x : Context) (p : Program) → ats (instructions_of x (pla
 ats_of_program x (program fs globals cs) =
     let places = places_of (program fs globals cs) in
     both _ _ _ _ (ats_of_tops x places 0 cs) (then 0 _ _ (ats_of_functions x places (size_of_tops cs + 1) fs))
-
--- Operations with as many offsets are as many instructions.
-pub instructions_long : (ops : List Op) (os : List Offset) → length ops ≡ length os → length (spec.instructions_of ops os) ≡ length ops
-instructions_long [] os e = refl
-instructions_long (op ∷ ops) [] e = absurd (omega (arith, e))
-instructions_long (op ∷ ops) (o ∷ os) e = let rest = instructions_long ops os (omega (arith, e)) in omega (arith, rest)
 
 -- Where functions begin.
 

@@ -6,13 +6,13 @@ use Rattle.ql_meaning.specs.Context.{globals_of}
 use Rattle.ql_code.specs.Code as code
 use Rattle.ql_code.specs.Sound.{Sound}
 use Rattle.ql_compile.specs.Compile.{compiled}
-use Rattle.ql_compile.proofs.Measuring.{instructions_long}
+use Rattle.ql_compile.proofs.Instructions.{as_long}
 use Rattle.ql_compile.proofs.compile.code_of.Goals as goal
 
 pub new-requires-2-clause-few : goal.new-requires-2-clause-few
 new-requires-2-clause-few c =
     let e = c.in_ok-ops.field-0 in
-    let long = instructions_long e.ops.items e.offsets.items c.in_ok-ops.ensures.as_many in
+    let long = as_long e.ops.items e.offsets.items c.in_ok-ops.ensures.as_many in
     let same = ap length c.in_ok-ops.ensures.instructions in
     let short = c.requires.short in
     omega (arith, long, same, short)
