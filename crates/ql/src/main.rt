@@ -61,7 +61,7 @@ fn call(rt: &HostRuntime, words: &[&str]) -> ExitCode {
     let mut out = StdSink::new(rt.stdout());
     let mut journal = SureSink::new();
     let mut err = StdSink::new(rt.stderr());
-    let status = one(
+    let ended = one(
         rt.alloc(),
         ends::asked(words),
         &mut source,
@@ -70,5 +70,5 @@ fn call(rt: &HostRuntime, words: &[&str]) -> ExitCode {
         &mut journal,
         &mut err,
     );
-    ExitCode::from(code_of(&status))
+    ExitCode::from(code_of(&ended.status))
 }

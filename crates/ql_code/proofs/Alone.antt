@@ -6,7 +6,7 @@ use Rattle.ql_world.specs.declared.word.Word.{Word}
 use Rattle.ql_world.specs.declared.word.Word.TheVariants.{Int as integer, Sym as symbol, Pair as pair, Fun as closure, Proc as process_closure, Fut as future}
 use Rattle.ql_world.specs.declared.word.Slot.TheVariants.{Val as plain}
 use Rattle.ql_world.specs.declared.event.Stop.TheVariants.{Limit as limit}
-use Rattle.ql_world.specs.Operator.{part, part_of, of_one, computed}
+use Rattle.ql_world.specs.Operator.{part, part_of, of_one, computed, takes_apart}
 use Rattle.ql_world.specs.declared.operator.Operator.{Operator}
 use Rattle.ql_world.specs.declared.operator.Operator.TheVariants.{Car as car, Cdr as cdr}
 use Rattle.ql_world.specs.declared.operator.Computed.{Computed as Result}
@@ -15,7 +15,7 @@ use Rattle.ql_world.specs.World.{World, marked, counted, with_thread}
 use Rattle.ql_world.specs.declared.world.Process.{Process}
 use Rattle.ql_world.specs.Machine.{Place, held, box, global, Want, takes_literal, reads, branches, computes, binds, calls, returns, Answer, done, got, bound, Machine}
 use Rattle.ql_world.specs.Tick.{words_boxed, slots_of, bind_row, is_ready, row, variable_row, primitive_row, can_step, step}
-use Rattle.ql_code.specs.LocalPath.{Seen, takes_apart, result_in, given}
+use Rattle.ql_code.specs.LocalPath.{Seen, result_in, given}
 use Rattle.ql_code.specs.LocalLaws.{none_stored, bound_alone, read_alone, alone, Shows}
 use Rattle.ql_code.proofs.Within.{of_if, of_map}
 

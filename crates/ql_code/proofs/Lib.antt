@@ -12,6 +12,7 @@ pub mod Kills
 mod Listings
 pub mod LocalExamples
 pub mod Others
+pub mod Operands
 pub mod PairsGrow
 pub mod Paths
 pub mod Progress

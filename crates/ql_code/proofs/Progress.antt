@@ -29,7 +29,7 @@ use Rattle.ql_code.specs.Machine as machine
 use Rattle.ql_code.specs.Machine.{Mark, returning, base, Item, slot, mark, Point, Entry, words, cleanups_on, frame_of, slot_at, top_mark, place_of_slot, op_want, op_entry, one_want, store_want, throw_want, return_want, exit_want, leave_want, clean_want, prim_want, call_want, operand_count, running_want, unwinding_want, want_in, entry_by, next_of, code_machine}
 use Rattle.ql_code.specs.Sound.{Has, Sound}
 use Rattle.ql_code.specs.Standing.{IsNumber, IsMade, IsStanding, IsPlace, IsStore, IsAsked, IsOff}
-use Rattle.ql_code.specs.SoundWorld.{made_of, IsProcess, IsSoundWorld, IsServed}
+use Rattle.ql_code.specs.SoundWorld.{made_of, IsProcess, IsSoundWorld}
 use Rattle.ql_code.proofs.Asks.{asked}
 use Rattle.ql_code.proofs.Settles.{and_left, and_right}
 use Rattle.ql_code.proofs.Worlds.{each_numbered}
@@ -328,20 +328,15 @@ module _ (code : Code) (so : Sound code) (names : List (List ℕ)) (limits : Lim
     to_there k c None x h = absurd h
     to_there k c (Some d) x h = tt
 
-    current_there : (b : Bool) (o : Option Call) → (b ≡ false → IsThere o) → (not b || is_some o) ≡ true → IsThere o
-    current_there false o f e = f refl
-    current_there true None f e = absurd cc
-    current_there true (Some d) f e = tt
+    reply_there : (k : ℕ) (o : Option (ProcessClosure Entry)) (x : Word) → may_reply M names limits p q o ≡ true → IsThere (reply_row M names limits p q (counted w p) k o x)
+    reply_there k None x r = absurd cc
+    reply_there k (Some c) x r = to_there k c c.current x (some_there c.current r)
 
-    reply_there : (k : ℕ) (o : Option (ProcessClosure Entry)) (x : Word) → numbered w.servers k ≡ o → may_reply M names limits p q o ≡ true → IsServed w (serving k) (replies x) → IsThere (reply_row M names limits p q (counted w p) k o x)
-    reply_there k None x e r f = absurd cc
-    reply_there k (Some c) x e r f = to_there k c c.current x (current_there c.eager c.current (λ z. some_there c.current (f c e z)) r)
-
-    replies_there : (kind : Kind) (x : Word) → of_server M names limits p q w (may_reply M names limits p q) kind ≡ true → IsServed w kind (replies x)
+    replies_there : (kind : Kind) (x : Word) → of_server M names limits p q w (may_reply M names limits p q) kind ≡ true
         → IsThere (server_row M names limits p q (λ k. reply_row M names limits p q (counted w p) k (numbered w.servers k) x) kind)
-    replies_there world_main x e f = absurd cc
-    replies_there (world_child i) x e f = absurd cc
-    replies_there (serving k) x e f = reply_there k (numbered w.servers k) x refl e f
+    replies_there world_main x e = absurd cc
+    replies_there (world_child i) x e = absurd cc
+    replies_there (serving k) x e = reply_there k (numbered w.servers k) x e
 
     exit_there : (c : ℕ) (o : Option Catch) → IsThere o → IsThere (exit_row M names limits p q (counted w p) c o)
     exit_there c None h = absurd h
@@ -364,43 +359,43 @@ module _ (code : Code) (so : Sound code) (names : List (List ℕ)) (limits : Lim
     end_there (world_child f) unwound h = tt
     end_there (serving k) unwound h = tt
 
-    row_there : (u : Want) → IsAsked (made_of w) q.kind u → (NeedsEntry u → IsThere (M.closure q.thread)) → IsServed w q.kind u → is_ready M names limits p q w u ≡ true → IsThere (row M names limits p q (counted w p) u)
-    row_there (awaits f pc) h n s e = await_there (or_pending (numbered w.futures f)) pc e
-    row_there takes_literal h n s e = tt
-    row_there (reads place pc) h n s e = read_there place pc h
-    row_there (stores place x) h n s e = store_there place x h.0
-    row_there branches h n s e = tt
-    row_there (computes o xs pc) h n s e = primitive_there (computed w.pairs o xs) pc (computed_there o xs h.0)
-    row_there (prints x) h n s e = tt
-    row_there (binds bs xs) h n s e = tt
-    row_there (calls bs xs) h n s e = tt
-    row_there returns h n s e = tt
-    row_there closes h n s e = close_there (M.closure q.thread) (n tt)
-    row_there (funcalls x xs pc) h n s e = funcall_there x xs pc h.0
-    row_there (chooses x) h n s e = tt
-    row_there (makes x) h n s e =
+    row_there : (u : Want) → IsAsked (made_of w) q.kind u → (NeedsEntry u → IsThere (M.closure q.thread)) → is_ready M names limits p q w u ≡ true → IsThere (row M names limits p q (counted w p) u)
+    row_there (awaits f pc) h n e = await_there (or_pending (numbered w.futures f)) pc e
+    row_there takes_literal h n e = tt
+    row_there (reads place pc) h n e = read_there place pc h
+    row_there (stores place x) h n e = store_there place x h.0
+    row_there branches h n e = tt
+    row_there (computes o xs pc) h n e = primitive_there (computed w.pairs o xs) pc (computed_there o xs h.0)
+    row_there (prints x) h n e = tt
+    row_there (binds bs xs) h n e = tt
+    row_there (calls bs xs) h n e = tt
+    row_there returns h n e = tt
+    row_there closes h n e = close_there (M.closure q.thread) (n tt)
+    row_there (funcalls x xs pc) h n e = funcall_there x xs pc h.0
+    row_there (chooses x) h n e = tt
+    row_there (makes x) h n e =
         there_if (is_nil x || in_cleanup (M.cleanups q.thread)) (close_row M names limits p q (counted w p) (M.closure q.thread)) (process_row M names limits p q (counted w p) (is_eager x) (M.closure q.thread))
         (close_there (M.closure q.thread) (n tt)) (process_there (is_eager x) (M.closure q.thread) (n tt))
-    row_there (sends k xs used pc) h n s e = send_there k (numbered w.servers k) xs used pc (numbered_there w.servers k h.0)
-    row_there takes_call h n s e = takes_there q.kind e
-    row_there (replies x) h n s e = replies_there q.kind x e s
-    row_there (opens x waits) h n s e = tt
-    row_there (exits c) h n s e = exit_there c (catch_at w.catches c) (catch_there w.catches c h)
-    row_there (throws tag x pc) h n s e = throw_there _ x pc (tagged_found _ w.catches tag _)
-    row_there protects h n s e = tt
-    row_there (begins u) h n s e = tt
-    row_there (finishes u) h n s e = tt
-    row_there (leaves c) h n s e = tt
-    row_there (ends ending) h n s e = end_there q.kind ending h
-    row_there rests h n s e = absurd cc
+    row_there (sends k xs used pc) h n e = send_there k (numbered w.servers k) xs used pc (numbered_there w.servers k h.0)
+    row_there takes_call h n e = takes_there q.kind e
+    row_there (replies x) h n e = replies_there q.kind x e
+    row_there (opens x waits) h n e = tt
+    row_there (exits c) h n e = exit_there c (catch_at w.catches c) (catch_there w.catches c h)
+    row_there (throws tag x pc) h n e = throw_there _ x pc (tagged_found _ w.catches tag _)
+    row_there protects h n e = tt
+    row_there (begins u) h n e = tt
+    row_there (finishes u) h n e = tt
+    row_there (leaves c) h n e = tt
+    row_there (ends ending) h n e = end_there q.kind ending h
+    row_there rests h n e = absurd cc
 
     and_there : (b : Bool) (o : Option W) → b ≡ true → IsThere o → IsThere (if b then o else None)
     and_there true o e h = h
     and_there false o e h = absurd cc
 
     -- A process that can step has a tick.
-    step_there : IsSoundWorld code so w → numbered w.procs p ≡ Some q → IsServed w q.kind (M.want q.thread) → can_step M names limits p q w ≡ true → IsThere (step M names limits p q w)
-    step_there s e f c =
+    step_there : IsSoundWorld code so w → numbered w.procs p ≡ Some q → can_step M names limits p q w ≡ true → IsThere (step M names limits p q w)
+    step_there s e c =
         let a = and_left (not q.ended) (is_ready M names limits p q w (M.want q.thread)) c in
         let r = and_right (not q.ended) (is_ready M names limits p q w (M.want q.thread)) c in
         let k = each_numbered (IsProcess code so (made_of w)) w.procs p q e s.procs_are in
@@ -410,7 +405,7 @@ module _ (code : Code) (so : Sound code) (names : List (List ℕ)) (limits : Lim
         (λ (h : IsStanding (Has so.table) (made_of w) code.instructions q.kind q.thread).
         ⊎_elim
         (λ (o : IsOff q.thread.state q.thread.stack).
-        row_there (M.want q.thread) (asked code so (made_of w) q.kind s.names q.thread h o) (entry_there code.instructions q.thread.state q.thread.place q.thread.stack) f r)
+        row_there (M.want q.thread) (asked code so (made_of w) q.kind s.names q.thread h o) (entry_there code.instructions q.thread.state q.thread.place q.thread.stack) r)
         (λ (o : M.want q.thread ≡ rests). let bad : false ≡ true = subst (λ u. is_ready M names limits p q w u ≡ true) o r in absurd cc)
         (off_or_rests code so q.thread.state q.thread.place q.thread.stack))
         k.2)
@@ -420,5 +415,5 @@ module _ (code : Code) (so : Sound code) (names : List (List ℕ)) (limits : Lim
   tick_by p w q (Some r) e h = let z : q ≡ r = cc in subst (λ y. IsThere (step M names limits p y w)) z h
 
   -- On sound code each process that can step has a tick.
-  pub tick_there : (w : W) (p : ℕ) (q : Process Point) → IsSoundWorld code so w → numbered w.procs p ≡ Some q → IsServed w q.kind (M.want q.thread) → can_step M names limits p q w ≡ true → is_some (tick M names limits w p) ≡ true
-  tick_there w p q s e f c = there_some (tick M names limits w p) (tick_by p w q (numbered w.procs p) e (step_there p q w s e f c))
+  pub tick_there : (w : W) (p : ℕ) (q : Process Point) → IsSoundWorld code so w → numbered w.procs p ≡ Some q → can_step M names limits p q w ≡ true → is_some (tick M names limits w p) ≡ true
+  tick_there w p q s e c = there_some (tick M names limits w p) (tick_by p w q (numbered w.procs p) e (step_there p q w s e c))

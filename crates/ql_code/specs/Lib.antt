@@ -3,6 +3,7 @@ pub mod Listing
 pub mod LocalLaws
 pub mod LocalPath
 pub mod Machine
+pub mod Operands
 pub mod Reached
 pub mod Sound
 pub mod SoundWorld

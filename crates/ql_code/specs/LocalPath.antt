@@ -1,12 +1,11 @@
 -- What a process can do by itself, with a look at nothing but the top of its stack.
-use Rattle.std.specs.Prelude.{ℕ, zero, suc, ◌+◌, ◌==◌, leb, Bool, true, false, if◌then◌else◌, List, [], ◌∷◌, length, drop as without_first, Option, Some, None, is_none, is_some, slice_get, option_map, option_and_then, IsTrue, ◌≤◌, ◌≡◌}
+use Rattle.std.specs.Prelude.{ℕ, zero, suc, ◌+◌, ◌==◌, leb, Bool, true, if◌then◌else◌, List, [], ◌∷◌, length, drop as without_first, Option, Some, None, is_none, is_some, slice_get, option_map, option_and_then, IsTrue, ◌≤◌, ◌≡◌}
 use Rattle.ql_world.specs.Word.{is_nil, first_future}
 use Rattle.ql_world.specs.declared.word.Word.{Word}
 use Rattle.ql_world.specs.declared.word.Slot.{Slot}
 use Rattle.ql_world.specs.declared.word.Slot.TheVariants.{Val as plain}
-use Rattle.ql_world.specs.Operator.{operator_of, computed}
+use Rattle.ql_world.specs.Operator.{operator_of, takes_apart, computed}
 use Rattle.ql_world.specs.declared.operator.Operator.{Operator}
-use Rattle.ql_world.specs.declared.operator.Operator.TheVariants.{Car as car, Cdr as cdr}
 use Rattle.ql_world.specs.declared.operator.Computed.{Computed as Result}
 use Rattle.ql_world.specs.declared.operator.Computed.TheVariants.{Gives as gives}
 use Rattle.ql_world.specs.declared.world.Aim.{Aim}
@@ -62,11 +61,6 @@ word_in _ = None
 -- the pairs that can be seen, the first ones of the run; with none not even nil is taken apart
 abbrev pub Seen : Type 0
 Seen = Option (List (Word × Word))
-
-abbrev pub takes_apart : Operator → Bool
-takes_apart car = true
-takes_apart cdr = true
-takes_apart o = false
 
 abbrev pub result_in : Seen → Operator → List Word → Option Result
 result_in None o ws = if takes_apart o then None else computed [] o ws

@@ -14,31 +14,19 @@ use Rattle.ql_world.specs.declared.world.Aim.{Aim}
 use Rattle.ql_world.specs.declared.world.Aim.TheVariants.{Free as free}
 use Rattle.ql_world.specs.Machine.{Place, held, box, global, last_form, with_word, unwound, Want, takes_literal, reads, stores, branches, prints, binds, calls, returns, closes, chooses, makes, takes_call, replies, opens, exits, throws, protects, begins, finishes, leaves, ends, rests, Answer, got, numbered, bound, entered, in_line, spawned, unwinds, aimed, Machine}
 use Rattle.ql_world.specs.declared.world.Cleanup.{Cleanup}
+use Rattle.ql_world.specs.declared.world.Closure.{Closure}
 use Rattle.ql_world.specs.Idle.{in_cleanup}
 use Rattle.ql_world.specs.Touch.{await_or, await_word, touched_in_call, touched_by, compute_want, funcall_want}
-use Rattle.ql_world.specs.Run.{Story, told}
+use Rattle.ql_world.specs.Run.{Story, told, is_planned}
 use Rattle.ql_code.specs.Code.{Op, lit, local, box_get, global_get, box_set, global_set, branch, jump, drop, slide, bind, call, return, close, funcall, funcall_drop, touch, qlet, join, qlambda, catch, qcatch, exit, throw, protect, leave, end_clean, prim, cons, print, end, Instruction, unmasked, Code}
-
-pub data Mark : Type 0 where
-  -- where a call goes on
-  returning : (place : ℕ) → Mark
-  -- a catch or a protect, and where a landing or an unwinding goes on
-  catching : (catch place : ℕ) → Mark
-  protecting : (protect place : ℕ) → Mark
-  -- a running cleanup; the protected value stands under it
-  cleaning : (protect : ℕ) → Cleanup → Mark
-  -- the bottom, and where a child has its own `join`
-  base : (join : Option ℕ) → Mark
+pub use Rattle.ql_code.specs.declared.mark.Mark.{Mark}
+pub use Rattle.ql_code.specs.declared.mark.Mark.TheVariants.{Returning as returning, Catching as catching, Protecting as protecting, Cleaning as cleaning, Base as base}
+pub use Rattle.ql_code.specs.declared.mark.State.{State}
+pub use Rattle.ql_code.specs.declared.mark.State.TheVariants.{Running as running, Unwinding as unwinding, Resting as resting, Over as over}
 
 pub data Item : Type 0 where
   slot : Slot → Item
   mark : Mark → Item
-
-pub data State : Type 0 where
-  running : State
-  unwinding : State
-  resting : State
-  over : State
 
 -- what a process holds
 pub record Point : Type 0 where
@@ -48,12 +36,9 @@ pub record Point : Type 0 where
   pub stack : List Item
   pub state : State
 
--- what a closure holds: the first place of its body, its parameters, and the slots that it has captured
-pub record Entry : Type 0 where
-  pub place : ℕ
-  pub count : ℕ
-  pub mask : ℕ
-  pub captured : List Slot
+-- what a closure holds
+abbrev pub Entry : Type 0
+Entry = Closure
 
 abbrev pub point : ℕ → List Item → State → Point
 point place stack state = record { place = place; stack = stack; state = state }
@@ -449,3 +434,7 @@ code_world code = opening code.quoted code.globals (settled code.instructions 0 
 -- what is told of the code's run along a schedule, with these names
 abbrev pub code_told : List (List ℕ) → Code → Limits → List ℕ → Option Story
 code_told names code limits schedule = told (code_machine code.instructions) names limits (code_world code) schedule
+
+-- whether the schedule is that of one worker
+abbrev pub code_planned : List (List ℕ) → Code → Limits → List ℕ → Bool
+code_planned names code limits schedule = is_planned (code_machine code.instructions) names limits (code_world code) schedule

@@ -1,13 +1,12 @@
 -- A world of sound code: what is made in it names only what was made, and its processes stand in their places' shapes.
-use Rattle.std.specs.Prelude.{◌≡◌, ◌⊎◌, true, false, List, [], ◌∷◌, length, Option, Some, None, is_some}
+use Rattle.std.specs.Prelude.{◌≡◌, ◌⊎◌, true, List, [], ◌∷◌, length, Option, Some, None}
 use Rattle.ql_world.specs.declared.word.Word.{Word}
-use Rattle.ql_world.specs.World.{Call, ProcessClosure, World, numbered}
+use Rattle.ql_world.specs.World.{Call, ProcessClosure, World}
 use Rattle.ql_world.specs.declared.world.FutState.{FutState as Future}
 use Rattle.ql_world.specs.declared.world.FutState.TheVariants.{Value as valued}
 use Rattle.ql_world.specs.declared.world.Kind.{Kind}
 use Rattle.ql_world.specs.declared.world.Kind.TheVariants.{Closure as serving}
 use Rattle.ql_world.specs.declared.world.Process.{Process}
-use Rattle.ql_world.specs.Machine.{Want, replies}
 use Rattle.ql_code.specs.Code.{unmasked, Code}
 use Rattle.ql_code.specs.Machine.{Point, Entry}
 use Rattle.ql_code.specs.Sound.{Has, Sound}
@@ -67,8 +66,3 @@ module _ (code : Code) (so : Sound code) where
 
   abbrev pub IsSoundWorld : World Point Entry → Type 0
   IsSoundWorld w = IsSoundIn (made_of w) w.pairs w.boxes w.closures w.futures w.servers w.globals w.procs
-
--- The process of a closure that isn't eager replies only while a call is in progress.
-abbrev pub IsServed : World Point Entry → Kind → Want → Type 0
-IsServed w (serving k) (replies x) = (c : ProcessClosure Entry) → numbered w.servers k ≡ Some c → c.eager ≡ false → is_some c.current ≡ true
-IsServed w kind want = Unit {0}

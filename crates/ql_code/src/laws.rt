@@ -9,7 +9,9 @@ ghost use Rattle.ql_world.specs.Tick.{can_step, tick};
 ghost use Rattle.ql_code.specs.Code.{Code};
 ghost use Rattle.ql_code.specs.Machine.{Point, Entry, code_machine, code_world};
 ghost use Rattle.ql_code.specs.Sound.{Sound, IsValid};
-ghost use Rattle.ql_code.specs.SoundWorld.{IsSoundWorld, IsServed};
+ghost use Rattle.ql_code.specs.Standing.{IsAsked};
+ghost use Rattle.ql_code.specs.SoundWorld.{made_of, IsSoundWorld};
+ghost use Rattle.ql_code.specs.Operands.{IsReachedOn, HasOperands};
 ghost use Rattle.ql_code.specs.Walk.{is_valid};
 ghost use Rattle.ql_code.specs.LocalLaws.{PathsFrame, CommitsAreTicks, TicksAreTurns, NextIsLocal, GreatestIsFarthest, KillsShow, ThrowsShow, StaleWorkShows, PairsStay};
 
@@ -22,9 +24,20 @@ pub fn worlds_are_sound()
 /// There each process that can step has a tick.
 pub fn ticks_go_on()
     ensures { (code : Code) (so : Sound code) (names : List (List ℕ)) (limits : Limits) (w : World Point Entry) (i : ℕ) (q : Process Point)
-        → IsSoundWorld code so w → numbered w.procs i ≡ Some q → IsServed w q.kind ((code_machine code.instructions).want q.thread)
+        → IsSoundWorld code so w → numbered w.procs i ≡ Some q
         → can_step (code_machine code.instructions) names limits i q w ≡ true
         → is_some (tick (code_machine code.instructions) names limits w i) ≡ true }
+{}
+
+/// Along a run of code that is known to be sound, each process that can step has a tick; it asks for what there is, and
+/// where it is at an instruction the operands of that are there.
+pub fn runs_are_sound()
+    ensures ticks { (code : Code) (names : List (List ℕ)) (limits : Limits) (schedule : List ℕ) (w : World Point Entry) (p : ℕ) (q : Process Point)
+        → IsReachedOn code names limits schedule w p q → is_some (tick (code_machine code.instructions) names limits w p) ≡ true }
+    ensures asked { (code : Code) (names : List (List ℕ)) (limits : Limits) (schedule : List ℕ) (w : World Point Entry) (p : ℕ) (q : Process Point)
+        → IsReachedOn code names limits schedule w p q → IsAsked (made_of w) q.kind ((code_machine code.instructions).want q.thread) }
+    ensures operands { (code : Code) (names : List (List ℕ)) (limits : Limits) (schedule : List ℕ) (w : World Point Entry) (p : ℕ) (q : Process Point)
+        → IsReachedOn code names limits schedule w p q → HasOperands code q.thread }
 {}
 
 /// The walk over places and starts decides which code is valid.

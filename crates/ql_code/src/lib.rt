@@ -4,5 +4,6 @@
 pub mod code;
 pub mod laws;
 pub mod listing;
+pub mod mark;
 #[cfg(test)]
 mod tests;

@@ -15,8 +15,12 @@ use Rattle.ql_meaning.specs.Control.{Bindings, bind_all, Closure, Frame, returni
 use Rattle.ql_code.specs.Code.{Instruction, instruction, unmasked}
 use Rattle.ql_code.specs.declared.code.Op.TheVariants.{Return as return, Join as join}
 use Rattle.ql_compile.specs.Compile.{Scope, without_all, with_variables, free, free_in_values, size, size_of_joined, starts_of, Places, captured, body_scope, code, code_of_joined}
-use Rattle.ql_code.specs.Machine as machine
-use Rattle.ql_code.specs.Machine.{Mark, base, Item, slot, mark, word, push, push_slots, frame_of, top_mark, slots_at, Point, Entry, State, running, settled, child_stack, children_from}
+use Rattle.ql_code.specs.declared.mark.Mark.TheVariants as marks
+use Rattle.ql_code.specs.Machine.{Item, slot, mark, word, push, push_slots, frame_of, top_mark, slots_at, Point, Entry, settled, child_stack, children_from}
+use Rattle.ql_code.specs.declared.mark.Mark.{Mark}
+use Rattle.ql_code.specs.declared.mark.State.{State}
+use Rattle.ql_code.specs.declared.mark.Mark.TheVariants.{Base as base}
+use Rattle.ql_code.specs.declared.mark.State.TheVariants.{Running as running}
 use Rattle.ql_compile.proofs.Right.{IsRight, AreRightValues}
 use Rattle.ql_compile.proofs.Scopes.{Sees, sees_bound, sees_none, Suited, stacked, long_bound}
 use Rattle.ql_compile.proofs.Caught.{closure_frame, closure_long, sees_caught}
@@ -83,9 +87,9 @@ module _ (x : Context) (places : Places) (ops : List Instruction) where
   -- a function's body
   pub called_body : (w : ℕ) (g : Function) (fs : List Frame) (next : ℕ) (below : List Item) (ss : List Slot) (h : Stood x places ops w g)
       → Suited (parameters_of g) (stored_among x (parameters_of g)) ss → R fs next below
-      → Settled x places ops (descend (body_of g) (bind_all (parameters_of g) ss []) (returning ∷ fs)) h.place (push_slots ss (mark (machine.returning next) ∷ below))
+      → Settled x places ops (descend (body_of g) (bind_all (parameters_of g) ss []) (returning ∷ fs)) h.place (push_slots ss (mark (marks.Returning next) ∷ below))
   called_body w (function at v o ps c) fs next below ss h u t =
-      let st = mark (machine.returning next) ∷ below in
+      let st = mark (marks.Returning next) ∷ below in
       let f : Fits x places (free c) (bind_all ps ss []) (with_variables ps (stored_among x ps) []) (push_slots ss st) (h.place + size c) = record {
         sees = subst (Sees x.globals (free c) (bind_all ps ss []) (with_variables ps (stored_among x ps) [])) (sym (frame_pushed ss st))
             (sees_bound x.globals [] [] [] (free c) ps (stored_among x ps) ss u refl (sees_none x.globals (without_all ps (free c)) h.right.1));
@@ -127,11 +131,11 @@ module _ (x : Context) (places : Places) (ops : List Instruction) where
   -- a cleanup
   pub cleaned : (u : ℕ) (w : Word) (c : Core) (env : Bindings) (k : Cleanup) (fs : List Frame) (l r : ℕ) (below : List Item)
       → Clean x places ops c env l r below → R fs r below
-      → Settled x places ops (descend c env (cleaning u w k ∷ fs)) l (mark (machine.cleaning u k) ∷ (word w ∷ below))
+      → Settled x places ops (descend c env (cleaning u w k ∷ fs)) l (mark (marks.Cleaning u k) ∷ (word w ∷ below))
   cleaned u w c env k fs l r below h t =
       let e : r ≡ l + size c + 1 = h.is_last in
       descends x places ops c env _ (None ∷ h.sc) l (l + size c) _ (front ops _ _ _ h.has) h.right
-      (marked (l + size c) (machine.cleaning u k) refl tt (fits_more x places (plain w) h.fits)) refl
+      (marked (l + size c) (marks.Cleaning u k) refl tt (fits_more x places (plain w) h.fits)) refl
       (waiting (cleans u w k fs below h.at (back ops _ _ _ (size c) (long x places _ l c) h.has).0 (subst (λ p. R fs p below) e t)))
 
   -- a child, whose stack has so many nils on a copy of the frame

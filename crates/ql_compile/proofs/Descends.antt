@@ -8,8 +8,12 @@ use Rattle.ql_meaning.specs.Context.{Context, same_name, offset_of}
 use Rattle.ql_meaning.specs.Control.{Bindings, Frame, operands, Thread, values_in, descend, descend_node, descend_operands, descend_values, descend_forms}
 use Rattle.ql_code.specs.Code.{Instruction}
 use Rattle.ql_compile.specs.Compile.{Scope, is_name_among, without_all, free, free_in_node, free_in_cores, free_in_values, count, size, size_of_node, size_of_cores, size_of_forms, size_of_values, Places, code, code_of_node, code_of_cores, code_of_forms, code_of_values}
-use Rattle.ql_code.specs.Machine as machine
-use Rattle.ql_code.specs.Machine.{Mark, base, Item, slot, mark, word, push, frame_of, top_mark, Point, Entry, State, running}
+use Rattle.ql_code.specs.declared.mark.Mark.TheVariants as marks
+use Rattle.ql_code.specs.Machine.{Item, slot, mark, word, push, frame_of, top_mark, Point, Entry}
+use Rattle.ql_code.specs.declared.mark.Mark.{Mark}
+use Rattle.ql_code.specs.declared.mark.State.{State}
+use Rattle.ql_code.specs.declared.mark.Mark.TheVariants.{Base as base}
+use Rattle.ql_code.specs.declared.mark.State.TheVariants.{Running as running}
 use Rattle.ql_compile.proofs.Right.{IsRight, IsRightNode, AreRight, AreRightValues}
 use Rattle.ql_compile.proofs.Cases.{cases}
 use Rattle.ql_compile.proofs.Scopes.{sees_more, among_left, among_right, name_refl}
@@ -34,10 +38,10 @@ sub_none xs y h = absurd cc
 
 pub beyond_less : (m : Option Mark) (p q : ℕ) → p ≤ q → Beyond m q → Beyond m p
 beyond_less None p q l b = tt
-beyond_less (Some (machine.returning r)) p q l b = tt
-beyond_less (Some (machine.catching c r)) p q l b = tt
-beyond_less (Some (machine.protecting u r)) p q l b = tt
-beyond_less (Some (machine.cleaning u k)) p q l b = tt
+beyond_less (Some (marks.Returning r)) p q l b = tt
+beyond_less (Some (marks.Catching c r)) p q l b = tt
+beyond_less (Some (marks.Protecting u r)) p q l b = tt
+beyond_less (Some (marks.Cleaning u k)) p q l b = tt
 beyond_less (Some (base None)) p q l b = tt
 beyond_less (Some (base (Some j))) p q l b = omega (arith, l, b)
 

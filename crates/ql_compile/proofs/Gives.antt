@@ -13,8 +13,12 @@ use Rattle.ql_meaning.specs.Control.{Bindings, Frame, replied, Control, given, T
 use Rattle.ql_code.specs.Code.{Instruction, instruction}
 use Rattle.ql_code.specs.declared.code.Op.TheVariants.{Jump as jump, Touch as touch}
 use Rattle.ql_compile.specs.Compile.{Scope, free, free_in_cores, count, size, Places, read_op, write_op, call_op, primitive_op, code}
-use Rattle.ql_code.specs.Machine as machine
-use Rattle.ql_code.specs.Machine.{Mark, base, Item, slot, mark, word, words, push, frame_of, top_mark, joins_at, silent, slid, Point, point, State, running, settle, settled}
+use Rattle.ql_code.specs.declared.mark.Mark.TheVariants as marks
+use Rattle.ql_code.specs.Machine.{Item, slot, mark, word, words, push, frame_of, top_mark, joins_at, silent, slid, Point, point, settle, settled}
+use Rattle.ql_code.specs.declared.mark.Mark.{Mark}
+use Rattle.ql_code.specs.declared.mark.State.{State}
+use Rattle.ql_code.specs.declared.mark.Mark.TheVariants.{Base as base}
+use Rattle.ql_code.specs.declared.mark.State.TheVariants.{Running as running}
 use Rattle.ql_compile.proofs.Right.{AreRight}
 use Rattle.ql_compile.proofs.Cases.{cases}
 use Rattle.ql_compile.proofs.Scopes.{sees_none}
@@ -144,10 +148,10 @@ module _ (x : Context) (places : Places) where
 
     not_joined : (m : Option Mark) (pc q : ℕ) → pc < q → Beyond m q → joins_at pc m ≡ false
     not_joined None pc q l b = refl
-    not_joined (Some (machine.returning r)) pc q l b = refl
-    not_joined (Some (machine.catching c r)) pc q l b = refl
-    not_joined (Some (machine.protecting u r)) pc q l b = refl
-    not_joined (Some (machine.cleaning u k)) pc q l b = refl
+    not_joined (Some (marks.Returning r)) pc q l b = refl
+    not_joined (Some (marks.Catching c r)) pc q l b = refl
+    not_joined (Some (marks.Protecting u r)) pc q l b = refl
+    not_joined (Some (marks.Cleaning u k)) pc q l b = refl
     not_joined (Some (base None)) pc q l b = refl
     not_joined (Some (base (Some j))) pc q l b = ne_eqb _ _ (λ e. omega (arith, l, b, e))
 

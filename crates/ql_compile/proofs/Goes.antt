@@ -24,8 +24,13 @@ use Rattle.ql_code.specs.declared.code.Op.TheVariants.{Bind as op_bind, Slide as
 use Rattle.ql_code.specs.Code.{Instruction, instruction}
 use Rattle.ql_code.specs.declared.code.Op.TheVariants.{Touch as touch, Jump as jump, Exit as exit}
 use Rattle.ql_compile.specs.Compile.{Scope, find_in, with_variables, free, free_in_values, without_all, count, size, size_of_joined, Places, read_op, write_op, mask, code, code_of_joined}
+use Rattle.ql_code.specs.declared.mark.Mark.TheVariants as marks
 use Rattle.ql_code.specs.Machine as machine
-use Rattle.ql_code.specs.Machine.{Mark, base, Item, slot, mark, word, words, push, push_slots, frame_of, top_mark, below_mark, cleanups_on, unwind, aim_cleanup, Point, point, Entry, State, running, op_want, op_go, one_go, go_in, running_go, want_in, operand_count, settled, code_machine}
+use Rattle.ql_code.specs.Machine.{Item, slot, mark, word, words, push, push_slots, frame_of, top_mark, below_mark, cleanups_on, unwind, aim_cleanup, Point, point, Entry, op_want, op_go, one_go, go_in, running_go, want_in, operand_count, settled, code_machine}
+use Rattle.ql_code.specs.declared.mark.Mark.{Mark}
+use Rattle.ql_code.specs.declared.mark.State.{State}
+use Rattle.ql_code.specs.declared.mark.Mark.TheVariants.{Base as base}
+use Rattle.ql_code.specs.declared.mark.State.TheVariants.{Running as running}
 use Rattle.ql_compile.proofs.Right.{IsRight}
 use Rattle.ql_compile.proofs.Cases.{cases}
 use Rattle.ql_compile.proofs.Scopes.{Match}
@@ -148,7 +153,7 @@ module _ (x : Context) (places : Places) (ops : List Instruction) where
       → follows.Enters (core_machine x) (code_machine ops) F (Same x places ops) xs a b → R fs back below
       → F (control.funcall_go x at a fs) (machine.funcall_go ops back b pc below)
   entered_on t xs at back pc fs below a b e r =
-      let st = mark (machine.returning back) ∷ below in
+      let st = mark (marks.Returning back) ∷ below in
       let k = e.first in
       rw (e.is_first, e.is_second, ← (same_stored x places ops k e.second e.alike))
       (stay_on _ _ _ (entered_body x places ops k e.second e.alike (returning ∷ fs) st _ (suited k.parameters (stored_among x k.parameters) xs e.box (many x k.parameters) e.fits) refl tt
@@ -240,7 +245,7 @@ module _ (x : Context) (places : Places) (ops : List Instruction) where
   called_on : (w : ℕ) (g : Function) (f : Stood x places ops w g) (ws : List Word) (fs : List Frame) (pc : ℕ) (below : List Item) (a : Answer Closure) (b : Answer Entry)
       → length ws ≡ length (parameters_of g) → R fs (pc + 1) below
       → follows.Binds (core_machine x) (code_machine ops) F (Same x places ops) (stored_among x (parameters_of g)) ws a b
-      → F (control.call_go x (Some g) a fs) (machine.bind_go ops f.place b pc (mark (machine.returning (pc + 1)) ∷ below))
+      → F (control.call_go x (Some g) a fs) (machine.bind_go ops f.place b pc (mark (marks.Returning (pc + 1)) ∷ below))
   called_on w g f ws fs pc below a b k t z =
       let ps = parameters_of g in
       let m = many x ps in

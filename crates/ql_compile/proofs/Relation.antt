@@ -16,8 +16,13 @@ use Rattle.ql_code.specs.declared.code.Op.TheVariants.{FuncallDrop as op_funcall
 use Rattle.ql_code.specs.Code.{Instruction, instruction, mask_of}
 use Rattle.ql_code.specs.declared.code.Op.TheVariants.{Lit as lit, Branch as branch, Jump as jump, Drop as drop, Slide as slide, Bind as bind, Return as return, Touch as touch, Join as join, Qlambda as qlambda, Exit as exit, Throw as throw, Leave as leave, EndClean as end_clean, Print as print, End as end}
 use Rattle.ql_compile.specs.Compile.{Scope, find_in, without_all, with_variables, caught_slots, free, free_in_cores, free_in_values, count, size, size_of_cores, size_of_forms, size_of_joined, Places, place_called, read_op, write_op, mask, call_op, primitive_op, captured, body_scope, code, code_of_cores, code_of_forms, code_of_joined, code_of_tops, code_of_function, qlet_code}
-use Rattle.ql_code.specs.Machine as machine
-use Rattle.ql_code.specs.Machine.{Mark, base, Item, slot, mark, word, push, frame_of, top_mark, Point, Entry, State, running, resting, slots_at}
+use Rattle.ql_code.specs.declared.mark.Mark.TheVariants as marks
+use Rattle.ql_code.specs.declared.mark.State.TheVariants as states
+use Rattle.ql_code.specs.Machine.{Item, slot, mark, word, push, frame_of, top_mark, Point, Entry, slots_at}
+use Rattle.ql_code.specs.declared.mark.Mark.{Mark}
+use Rattle.ql_code.specs.declared.mark.State.{State}
+use Rattle.ql_code.specs.declared.mark.Mark.TheVariants.{Base as base}
+use Rattle.ql_code.specs.declared.mark.State.TheVariants.{Running as running, Resting as resting}
 use Rattle.ql_compile.proofs.Right.{AreGlobal, IsFunction, IsPrimitive, IsRight, AreRight, AreRightValues, IsRightFunction}
 use Rattle.ql_compile.proofs.Scopes.{Match, Sees}
 use Rattle.ql_compile.proofs.Sizes.{HasAt, joined, joined_size}
@@ -190,13 +195,13 @@ module _ (x : Context) (places : Places) where
       -- the same where the word is not given at once
       pub data Waits : List Frame → ℕ → List Item → Type 0 where
         returns : (fs : List Frame) {pc : ℕ} {st : List Item} (below : List Item) (n at l : ℕ) → slice_get ops pc ≡ Some (instruction return at)
-            → Over n st (mark (machine.returning l) ∷ below) → Rest fs l below → Waits (returning ∷ fs) pc st
+            → Over n st (mark (marks.Returning l) ∷ below) → Rest fs l below → Waits (returning ∷ fs) pc st
         exits : (c : ℕ) (fs : List Frame) {pc : ℕ} (below : List Item) (at l : ℕ) → slice_get ops pc ≡ Some (instruction exit at)
-            → l ≡ pc + 1 → Rest fs l below → Waits (catching c ∷ fs) pc (mark (machine.catching c l) ∷ below)
+            → l ≡ pc + 1 → Rest fs l below → Waits (catching c ∷ fs) pc (mark (marks.Catching c l) ∷ below)
         leaves : (u : ℕ) (c : Core) (env : Bindings) (fs : List Frame) {pc : ℕ} (below : List Item) (at l r : ℕ) → slice_get ops pc ≡ Some (instruction leave at)
-            → l ≡ pc + 1 → Clean c env l r below → Rest fs r below → Waits (protecting u c env ∷ fs) pc (mark (machine.protecting u l) ∷ below)
+            → l ≡ pc + 1 → Clean c env l r below → Rest fs r below → Waits (protecting u c env ∷ fs) pc (mark (marks.Protecting u l) ∷ below)
         cleans : (u : ℕ) (w : Word) (k : Cleanup) (fs : List Frame) {pc : ℕ} (below : List Item) (at : ℕ) → slice_get ops pc ≡ Some (instruction end_clean at)
-            → Rest fs (pc + 1) below → Waits (cleaning u w k ∷ fs) pc (mark (machine.cleaning u k) ∷ (word w ∷ below))
+            → Rest fs (pc + 1) below → Waits (cleaning u w k ∷ fs) pc (mark (marks.Cleaning u k) ∷ (word w ∷ below))
         child : (at : ℕ) {pc : ℕ} {st : List Item} (n : ℕ) → slice_get ops pc ≡ Some (instruction join at)
             → Over n st (mark (base (Some pc)) ∷ []) → Waits (child_base at ∷ []) pc st
         server : (at : ℕ) {pc : ℕ} {st : List Item} (n : ℕ) → slice_get ops pc ≡ Some (instruction return at)
@@ -204,11 +209,11 @@ module _ (x : Context) (places : Places) where
 
     -- what unwinding stops at
     pub data Stops : List Frame → List Item → Type 0 where
-      at_catch : (c : ℕ) (fs : List Frame) (below : List Item) (l : ℕ) → Rest fs l below → Stops (catching c ∷ fs) (mark (machine.catching c l) ∷ below)
+      at_catch : (c : ℕ) (fs : List Frame) (below : List Item) (l : ℕ) → Rest fs l below → Stops (catching c ∷ fs) (mark (marks.Catching c l) ∷ below)
       at_protect : (u : ℕ) (c : Core) (env : Bindings) (fs : List Frame) (below : List Item) (l r : ℕ) → Clean c env l r below → Rest fs r below
-          → Stops (protecting u c env ∷ fs) (mark (machine.protecting u l) ∷ below)
+          → Stops (protecting u c env ∷ fs) (mark (marks.Protecting u l) ∷ below)
       at_clean : (u : ℕ) (w : Word) (k : Cleanup) (fs : List Frame) (below : List Item) (pc : ℕ) → Rest fs pc below
-          → Stops (cleaning u w k ∷ fs) (mark (machine.cleaning u k) ∷ (word w ∷ below))
+          → Stops (cleaning u w k ∷ fs) (mark (marks.Cleaning u k) ∷ (word w ∷ below))
       at_tops : (cs : Cores) → Stops (then_tops cs ∷ []) (mark (base None) ∷ [])
       at_child : (at j : ℕ) → Stops (child_base at ∷ []) (mark (base (Some j)) ∷ [])
       at_server : (at : ℕ) → Stops (server_base at ∷ []) (mark (base None) ∷ [])
@@ -235,10 +240,10 @@ module _ (x : Context) (places : Places) where
       at_given : (w : Word) {fs : List Frame} {pc : ℕ} (st : List Item) → Waits fs pc st → At (given w) fs running pc (word w ∷ st)
       at_reply : (f at : ℕ) {fs : List Frame} {pc : ℕ} (st : List Item) → slice_get ops pc ≡ Some (instruction (touch 1) at) → Rest fs (pc + 1) st
           → At (given (future f)) (replied at ∷ fs) running pc (word (future f) ∷ st)
-      at_unwinding : {fs : List Frame} {pc : ℕ} {st : List Item} → Stops fs st → At unwinding fs machine.unwinding pc st
+      at_unwinding : {fs : List Frame} {pc : ℕ} {st : List Item} → Stops fs st → At unwinding fs states.Unwinding pc st
       at_end : {pc : ℕ} (at : ℕ) → slice_get ops pc ≡ Some (instruction end at) → At finished (then_tops no_cores ∷ []) running pc (mark (base None) ∷ [])
       at_resting : (at : ℕ) {pc : ℕ} → At at_rest (server_base at ∷ []) resting pc (mark (base None) ∷ [])
-      at_over : {pc : ℕ} → At over [] machine.over pc []
+      at_over : {pc : ℕ} → At over [] states.Over pc []
 
     -- a point stands where a thread does
     abbrev pub Follow : Thread → Point → Type 0

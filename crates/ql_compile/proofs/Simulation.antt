@@ -9,17 +9,21 @@ use Rattle.ql_scope.specs.Scope.{binders_in}
 use Rattle.ql_world.specs.declared.word.Word.{Word}
 use Rattle.ql_world.specs.declared.word.Slot.TheVariants.{Val as plain}
 use Rattle.ql_world.specs.Tick.{slots_of}
-use Rattle.ql_world.specs.Follows.{Both, Follows, AreToldAlike}
+use Rattle.ql_world.specs.Follows.{Both, Follows, AreToldAlike, ArePlannedAlike}
 use Rattle.ql_meaning.specs.Context.{Context, is_called, function_called, stored_among, context_of, functions_of, globals_of, tops_of, quotes_of}
 use Rattle.ql_meaning.specs.Control as control
 use Rattle.ql_meaning.specs.Control.{Bindings, Closure, Frame, Control, acting, server_base, bind_all, descend, begin, closure_at, children_at, core_machine}
-use Rattle.ql_meaning.specs.Meaning.{program_told}
+use Rattle.ql_meaning.specs.Meaning.{program_told, program_planned}
 use Rattle.ql_code.specs.Code.{Instruction, instruction}
 use Rattle.ql_code.specs.declared.code.Op.{Op}
 use Rattle.ql_code.specs.declared.code.Op.TheVariants.{End as end}
 use Rattle.ql_compile.specs.Compile.{find_in, free_in_values, size, size_of_joined, size_of_function, size_of_tops, Places, place_called, places_from, places_of, read_op, write_op, call_op, primitive_op, code_of_tops, code_of_function, code_of_functions, without_all, with_variables, free, instructions_of, compiled}
 use Rattle.ql_code.specs.Machine as machine
-use Rattle.ql_code.specs.Machine.{Mark, base, Item, slot, mark, word, push, push_slots, frame_of, top_mark, State, running, next_of, op_entry, entry_by, op_children, children_by, settled, Entry, code_machine, code_told}
+use Rattle.ql_code.specs.Machine.{Item, slot, mark, word, push, push_slots, frame_of, top_mark, next_of, op_entry, entry_by, op_children, children_by, settled, Entry, code_machine, code_told, code_planned}
+use Rattle.ql_code.specs.declared.mark.Mark.{Mark}
+use Rattle.ql_code.specs.declared.mark.State.{State}
+use Rattle.ql_code.specs.declared.mark.Mark.TheVariants.{Base as base}
+use Rattle.ql_code.specs.declared.mark.State.TheVariants.{Running as running}
 use Rattle.ql_compile.proofs.Compilable.{is_compilable}
 use Rattle.ql_compile.proofs.Right.{AreRightFunctions, IsRightFunction}
 use Rattle.ql_compile.proofs.Checked.{Checked, checked}
@@ -217,7 +221,12 @@ abbrev pub FollowersAreToldAlike : Type 0
 FollowersAreToldAlike = (p : Program) → Follows (core_machine (context_of p)) (code_machine (ops_of p)) (Alike p) (SameClosures p)
     → AreToldAlike (core_machine (context_of p)) (code_machine (ops_of p)) (Alike p) (SameClosures p)
 
-module _ (alike : FollowersAreToldAlike) (p : Program) (right : Checked p) where
+-- and that one worker takes the same schedules
+abbrev pub FollowersArePlannedAlike : Type 0
+FollowersArePlannedAlike = (p : Program) → Follows (core_machine (context_of p)) (code_machine (ops_of p)) (Alike p) (SameClosures p)
+    → ArePlannedAlike (core_machine (context_of p)) (code_machine (ops_of p)) (Alike p) (SameClosures p)
+
+module _ (p : Program) (right : Checked p) where
   abbrev x : Context
   x = context_of p
 
@@ -243,11 +252,22 @@ module _ (alike : FollowersAreToldAlike) (p : Program) (right : Checked p) where
       (begins x places ops (tops_of p) 0
       (record { end_at = 0; has = front_one ops 0 (code_of_tops x places 0 (tops_of p)) (instruction end 0) _ all; right = right.tops; globals = right.variables })))
 
-  told_alike : (names : List (List ℕ)) (limits : Limits) (schedule : List ℕ) → program_told names p limits schedule ≡ code_told names (compiled p) limits schedule
-  told_alike names limits schedule =
+  told_alike : FollowersAreToldAlike → (names : List (List ℕ)) (limits : Limits) (schedule : List ℕ)
+      → program_told names p limits schedule ≡ code_told names (compiled p) limits schedule
+  told_alike alike names limits schedule =
+      alike p (code_follows x places ops known) names limits (quotes_of p).0 (length (globals_of p)) _ _ begins_alike schedule
+
+  planned_alike : FollowersArePlannedAlike → (names : List (List ℕ)) (limits : Limits) (schedule : List ℕ)
+      → program_planned names p limits schedule ≡ code_planned names (compiled p) limits schedule
+  planned_alike alike names limits schedule =
       alike p (code_follows x places ops known) names limits (quotes_of p).0 (length (globals_of p)) _ _ begins_alike schedule
 
 -- the code of a program is told as the program is, along every schedule
 pub always_same : FollowersAreToldAlike → (p : Program) → is_compilable p ≡ true → (names : List (List ℕ)) (limits : Limits) (schedule : List ℕ)
     → code_told names (compiled p) limits schedule ≡ program_told names p limits schedule
-always_same alike p right names limits schedule = sym (told_alike alike p (checked p right) names limits schedule)
+always_same alike p right names limits schedule = sym (told_alike p (checked p right) alike names limits schedule)
+
+-- one worker takes the same schedules of it as of the program
+pub always_planned : FollowersArePlannedAlike → (p : Program) → is_compilable p ≡ true → (names : List (List ℕ)) (limits : Limits) (schedule : List ℕ)
+    → code_planned names (compiled p) limits schedule ≡ program_planned names p limits schedule
+always_planned alike p right names limits schedule = sym (planned_alike p (checked p right) alike names limits schedule)

@@ -6,7 +6,8 @@ use Rattle.ql_world.specs.declared.word.Word.{Word}
 use Rattle.ql_world.specs.declared.word.Slot.{Slot}
 use Rattle.ql_world.specs.declared.word.Slot.TheVariants.{Val as plain}
 use Rattle.ql_world.specs.declared.world.Aim.{Aim}
-use Rattle.ql_code.specs.Machine.{returning, base, catching, protecting, cleaning, Item, slot, mark, word, words, push, push_slots, frame_of, aim_cleanup}
+use Rattle.ql_code.specs.Machine.{Item, slot, mark, word, words, push, push_slots, frame_of, aim_cleanup}
+use Rattle.ql_code.specs.declared.mark.Mark.TheVariants.{Returning as returning, Base as base, Catching as catching, Protecting as protecting, Cleaning as cleaning}
 use Rattle.ql_compile.proofs.Scopes.{stacked}
 
 -- the first stack is the second under so many slots

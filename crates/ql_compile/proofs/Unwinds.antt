@@ -9,8 +9,11 @@ use Rattle.ql_meaning.specs.Control as control
 use Rattle.ql_meaning.specs.Control.{Bindings, Frame, Control, unwinding}
 use Rattle.ql_code.specs.Code.{Instruction}
 use Rattle.ql_compile.specs.Compile.{Scope, Places}
-use Rattle.ql_code.specs.Machine as machine
-use Rattle.ql_code.specs.Machine.{Mark, base, returning, catching, protecting, cleaning, Item, slot, mark, word, push, top_mark, frame_of, cleanups_on, innermost_on, unwind, aim_cleanup, State}
+use Rattle.ql_code.specs.declared.mark.State.TheVariants as states
+use Rattle.ql_code.specs.Machine.{Item, slot, mark, word, push, top_mark, frame_of, cleanups_on, innermost_on, unwind, aim_cleanup}
+use Rattle.ql_code.specs.declared.mark.Mark.{Mark}
+use Rattle.ql_code.specs.declared.mark.State.{State}
+use Rattle.ql_code.specs.declared.mark.Mark.TheVariants.{Base as base, Returning as returning, Catching as catching, Protecting as protecting, Cleaning as cleaning}
 use Rattle.ql_compile.proofs.Scopes.{Sees}
 use Rattle.ql_compile.proofs.Stacks.{same_over, same_push, aim_over, aim_push, aim_frame}
 use Rattle.ql_compile.proofs.Relation.{Beyond, Fits, After, Clean, Rest, jumping, sliding, operand, joins, forms, tops, touching, waiting, Waits, returns, exits, leaves, cleans, child, server, Stops, at_catch, at_protect, at_clean, at_tops, at_child, at_server, at_nothing, At, at_literal, at_read, at_close, at_guard, at_act, at_touch, at_bind, at_given, at_reply, at_unwinding, at_end, at_resting, at_over}
@@ -170,7 +173,7 @@ module _ (x : Context) (places : Places) (ops : List Instruction) where
 
   -- it unwinds from now on
   pub unwound_alike : (c : Control) (fs : List Frame) (s : State) (pc : ℕ) (st : List Item) → At x places ops c fs s pc st
-      → At x places ops unwinding (control.unwind fs) machine.unwinding pc (unwind st)
+      → At x places ops unwinding (control.unwind fs) states.Unwinding pc (unwind st)
   unwound_alike c fs s pc st a = at_unwinding (all_unwind c fs s pc st a)
 
   -- the innermost running cleanup gets an aim

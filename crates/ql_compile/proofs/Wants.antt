@@ -20,7 +20,9 @@ use Rattle.ql_meaning.specs.Control.{Bindings, lookup, Frame, Control, place_in,
 use Rattle.ql_code.specs.Code.{Instruction, mask_of, unmasked}
 use Rattle.ql_compile.specs.Compile.{Scope, find_in, count, Places, read_op, write_op, primitive_op}
 use Rattle.ql_code.specs.Machine as machine
-use Rattle.ql_code.specs.Machine.{Mark, Item, slot, word, words, push, frame_of, top_mark, cleanups_on, State, op_want, operand_count, want_in, running_want}
+use Rattle.ql_code.specs.Machine.{Item, slot, word, words, push, frame_of, top_mark, cleanups_on, op_want, operand_count, want_in, running_want}
+use Rattle.ql_code.specs.declared.mark.Mark.{Mark}
+use Rattle.ql_code.specs.declared.mark.State.{State}
 use Rattle.ql_compile.proofs.Right.{IsPrimitive}
 use Rattle.ql_compile.proofs.Cases.{cases}
 use Rattle.ql_compile.proofs.Scopes.{Match, name_refl, match_more, below_long}

@@ -9,10 +9,10 @@ ghost use Rattle.ql_scope.specs.Scope.{InScope};
 ghost use Rattle.ql_scope.specs.Compilable.{is_compilable};
 ghost use Rattle.ql_code.specs.Sound.{IsValid};
 ghost use Rattle.ql_compile.specs.Compile.{compiled};
-ghost use Rattle.ql_compile.specs.Laws.{CodeFollows, CodeJournalsAreLegal, CodeJournalsSpellTheirSchedules};
+ghost use Rattle.ql_compile.specs.Laws.{CodeFollows, CodeIsPlanned, CodeJournalsAreLegal, CodeJournalsSpellTheirSchedules};
 
 use ql_meaning::laws::{journals_are_legal, journals_spell_their_schedules};
-use ql_world::laws::followers_are_told_alike;
+use ql_world::laws::{followers_are_planned_alike, followers_are_told_alike};
 use std::marker::Brand;
 
 /// Compiled code is told as its program is, along every schedule.
@@ -20,6 +20,13 @@ pub fn code_follows_program()
     ensures { (p : Program) → is_compilable p ≡ true → (names : List (List ℕ)) (limits : Limits) → CodeFollows names p limits }
 {
     followers_are_told_alike::<Brand>();
+}
+
+/// One worker takes the same schedules of compiled code as of its program.
+pub fn code_is_planned_as_program()
+    ensures { (p : Program) → is_compilable p ≡ true → (names : List (List ℕ)) (limits : Limits) → CodeIsPlanned names p limits }
+{
+    followers_are_planned_alike::<Brand>();
 }
 
 /// The journal of each run of compiled code is legal.

@@ -6,17 +6,16 @@ use Rattle.ql_base.specs.Reserved.{number}
 use Rattle.ql_base.specs.declared.reserved.Reserved.{Reserved}
 use Rattle.ql_base.specs.declared.reserved.Reserved.TheVariants.{Null, Greater, Less, Cons, Nil, True, If as IfWord, And as AndWord, Or as OrWord, Progn as PrognWord, Cond as CondWord, Let as LetWord, LetStar as LetStarWord, List as ListWord}
 use Rattle.ql_forms.specs.Form.{Form, Forms, none, more, atom, list, proper, dotted, symbol, integer, Atom, items_of, place_of, count, is_nil}
-use Rattle.ql_expand.specs.Assembly.{atom_core, nil_core, number_core, with_two, either, chain, all_linked, folded, operands, nested, let_core, before_body, of_each, way_of}
+use Rattle.ql_expand.specs.Assembly.{atom_core, nil_core, number_core, with_two, either, chain, all_linked, folded, operands, nested, let_core, before_body, of_each, has_body}
 use Rattle.ql_expand.specs.Building.{Fits, fits_datum, fits_assignment, fits_let, fits_let_star, fits_qlet, fits_lambda, fits_qlambda, fits_clauses, allows, passes, Clauses, EachOf, none_of, one_of}
-use Rattle.ql_expand.specs.Core.{named, Binder, Core, core, Cores, no_cores, and_core, Bounds, constant, setq, conditional, variable, print, funcall, throw, protect, lambda, qlet, qlambda}
+use Rattle.ql_expand.specs.Core.{named, Binder, Core, core, Cores, no_cores, and_core, Bounds, and_bound, constant, setq, conditional, variable, print, funcall, throw, protect, lambda, qlet, qlambda}
 use Rattle.ql_expand.specs.ExpandFault.{fits}
-use Rattle.ql_expand.specs.Expands.{applied, nil_at, one, two, parameters_in, no_terms, no_factors, one_term, one_factor, negative, more_operands, not_null, at_most, at_least, list_none, list_more, and_none, and_one, and_more, or_none, or_one, when, unless, cond_none, cond_test, cond_forms, let_star_none, let_star_one, let_star_more, Expands, sugar, or_more, integer_alone, constant_word, quoted, variable_word, assigned, if_then, if_else, sequence, bound, one_operand, two_operands, printed, called, value_called, closed, bound_apart, closed_apart, caught, caught_all, thrown, protected, Body, no_forms, one_form, forms, Each, none_left, one_more, Binds, none_bound, one_bound}
+use Rattle.ql_expand.specs.Expands.{applied, nil_at, one, two, parameters_in, no_terms, no_factors, one_term, one_factor, negative, more_operands, not_null, at_most, at_least, list_none, list_more, and_none, and_one, and_more, or_none, or_one, when, unless, cond_none, cond_test, cond_forms, let_star_none, let_star_one, let_star_more, Expands, sugar, or_more, integer_alone, constant_word, quoted, variable_word, assigned, if_then, if_else, sequence, bound, one_operand, two_operands, printed, called, value_called, closed, bound_apart, closed_apart, caught, caught_all, thrown, protected, Body, no_forms, one_form, forms, Each, none_left, one_more, Bind, Binds, none_bound, one_bound}
 use Rattle.ql_expand.specs.Operator.{operator_of, reserved_operator, reading_of, takes_two, is_arithmetic, is_constant}
 use Rattle.ql_expand.specs.Parts as parts
 use Rattle.ql_expand.specs.Parts.{clause_in}
 use Rattle.ql_expand.proofs.Counts.{nil_items, not_one}
 use Rattle.ql_expand.proofs.Fine.{clause_shape}
-use Rattle.ql_expand.specs.declared.assemble.Way.TheVariants as ways
 use Rattle.ql_expand.specs.declared.operator.Operator.{Operator}
 use Rattle.ql_expand.specs.declared.operator.Operator.TheVariants.{If, Progn, Catch, Qcatch, Throw, Protect, Funcall, Print, Unary, Binary, Sum, Difference, Product, Not, AtMost, AtLeast, And, Or, When, Unless, LetStar, List as ListOf, Call}
 
@@ -119,7 +118,7 @@ linked_made {d = d} build all single (one_of {e = f} {c = c} x (one_of {e = g} {
     all (λ j. absurd (omega arith))
     (each_used (subst (λ b. EachOf (b && d) (more f (more g fs)) (and_core c (and_core i cs))) (not_one (count fs)) (one_of x (one_of y ys))))
 
-pub each_made : (d : Bool) (at o w : ℕ) (r : Operator) → operator_of w ≡ r → way_of r ≡ ways.Each → (fs : Forms) (cs : Cores) → allows (reading_of r) (count fs) ≡ true
+pub each_made : (d : Bool) (at o w : ℕ) (r : Operator) → operator_of w ≡ r → (r ≡ Progn → ⊥) × (r ≡ Print → ⊥) × (r ≡ If → ⊥) × (r ≡ Funcall → ⊥) × (has_body r ≡ false) → (fs : Forms) (cs : Cores) → allows (reading_of r) (count fs) ≡ true
     → EachOf (passes r d (count fs)) fs cs → Expands d (applied at o w fs) (of_each r at o w cs)
 each_made d at o w Unary e h fs cs k x = by_one d at o w (of_each Unary at o w) (λ f c. one_operand e) k (each_used x)
 each_made d at o w Not e h fs cs k x = by_one d at o w (of_each Not at o w) (λ f c y. sugar (not_null e) (one_operand (word_is Null) y)) k (each_used x)
@@ -139,6 +138,10 @@ each_made d at o w And e h fs cs k x = linked_made (all_linked And at) (and_made
 each_made d at o w Or e h fs cs k x = linked_made (all_linked Or at) (or_made e) (λ f c. sugar (or_one e)) x
 each_made d at o w ListOf e h fs cs k x = list_made e (each_used x)
 each_made d at o w Call e h fs cs k x = called e (each_used x)
+each_made d at o w Progn e h fs cs k x = absurd (h.0 refl)
+each_made d at o w Print e h fs cs k x = absurd (h.1 refl)
+each_made d at o w If e h fs cs k x = absurd (h.2 refl)
+each_made d at o w Funcall e h fs cs k x = absurd (h.3 refl)
 each_made d at o w _ e h fs cs k x = cc
 
 -- ---- a form and a body
@@ -162,7 +165,7 @@ protected_made e f none h x y = cc
 protected_made e f (more g es) h x y = protected e x y
 
 module _ {d : Bool} {at o w : ℕ} where
-  pub before_made : (r : Operator) {f : Form} {fs es : Forms} {a b : Core} → operator_of w ≡ r → way_of r ≡ ways.BeforeBody → fs ≡ more f es → allows (reading_of r) (count fs) ≡ true
+  pub before_made : (r : Operator) {f : Form} {fs es : Forms} {a b : Core} → operator_of w ≡ r → has_body r ≡ true → fs ≡ more f es → allows (reading_of r) (count fs) ≡ true
       → Expands false f a → Body at es b → Expands d (applied at o w fs) (before_body r at a b)
   before_made Catch e h s k x y = rw s (caught e x y)
   before_made Qcatch e h s k x y = rw s (caught_all e x y)
@@ -172,14 +175,12 @@ module _ {d : Bool} {at o w : ℕ} where
   before_made Unless e h s k x y = rw s (sugar (unless e) (if_else (word_is IfWord) x (nil_made at) (sequence (word_is PrognWord) y)))
   before_made _ e h s k x y = cc
 
-  pub sequence_made : (r : Operator) {fs : Forms} {c : Core} → operator_of w ≡ r → way_of r ≡ ways.InTurn → Body at fs c → Expands d (applied at o w fs) c
-  sequence_made Progn e h x = sequence e x
-  sequence_made _ e h x = cc
+  pub sequence_made : (r : Operator) {fs : Forms} {c : Core} → operator_of w ≡ r → r ≡ Progn → Body at fs c → Expands d (applied at o w fs) c
+  sequence_made r e h x = sequence (e ∙ h) x
 
-  pub printed_made : (r : Operator) (fs : Forms) {c : Core} → operator_of w ≡ r → way_of r ≡ ways.Printed → allows (reading_of r) (count fs) ≡ true → Body at fs c
+  pub printed_made : (r : Operator) (fs : Forms) {c : Core} → operator_of w ≡ r → r ≡ Print → allows (reading_of r) (count fs) ≡ true → Body at fs c
       → Expands d (applied at o w fs) (core at (print c))
-  printed_made Print fs e h k x = let only = only_form (few fs 1 1 k) (enough fs 1 (Some 1) k) x in rw only.1 (printed e only.2)
-  printed_made _ fs e h k x = cc
+  printed_made r fs e h k x = let only = only_form (few fs 1 1 (rw h at k)) (enough fs 1 (Some 1) (rw h at k)) x in rw only.1 (printed (e ∙ h) only.2)
 
   if_made : operator_of w ≡ If → (f g : Form) (es : Forms) {a b c : Core} → count es ≤ 1 → Expands false f a → Expands false g b → Body at es c
       → Expands d (applied at o w (more f (more g es))) (core at (conditional a b c))
@@ -187,17 +188,15 @@ module _ {d : Bool} {at o w : ℕ} where
   if_made e f g (more i none) h x y (one_form z) = if_else e x y z
   if_made e f g (more i (more j es)) h x y z = absurd (omega arith)
 
-  pub tested_made : (r : Operator) {f g : Form} {fs gs es : Forms} {a b c : Core} → operator_of w ≡ r → way_of r ≡ ways.Tested → fs ≡ more f gs → gs ≡ more g es
+  pub tested_made : (r : Operator) {f g : Form} {fs gs es : Forms} {a b c : Core} → operator_of w ≡ r → r ≡ If → fs ≡ more f gs → gs ≡ more g es
       → allows (reading_of r) (count fs) ≡ true → Expands false f a → Expands false g b → Body at es c → Expands d (applied at o w fs) (core at (conditional a b c))
-  tested_made If {f = f} {g = g} {fs = fs} {es = es} e h s t k x y z =
-      let high : count fs ≤ 3 = few fs 2 3 k in
-      let size = ap count (s ∙ ap (more f) t) in rw (s, t) (if_made e f g es (omega (arith, size)) x y z)
-  tested_made _ e h s t k x y z = cc
+  tested_made r {f = f} {g = g} {fs = fs} {es = es} e h s t k x y z =
+      let high : count fs ≤ 3 = few fs 2 3 (rw h at k) in
+      let size = ap count (s ∙ ap (more f) t) in rw (s, t) (if_made (e ∙ h) f g es (omega (arith, size)) x y z)
 
-  pub applied_made : (r : Operator) {f : Form} {fs gs : Forms} {c : Core} {cs : Cores} → operator_of w ≡ r → way_of r ≡ ways.Applied → fs ≡ more f gs → Expands false f c → EachOf false gs cs
+  pub applied_made : (r : Operator) {f : Form} {fs gs : Forms} {c : Core} {cs : Cores} → operator_of w ≡ r → r ≡ Funcall → fs ≡ more f gs → Expands false f c → EachOf false gs cs
       → Expands d (applied at o w fs) (core at (funcall d c cs))
-  applied_made Funcall e h s x y = rw s (value_called e x (each_used y))
-  applied_made _ e h s x y = cc
+  applied_made r e h s x y = rw s (value_called (e ∙ h) x (each_used y))
 
 -- ---- clauses
 
@@ -219,23 +218,17 @@ module _ {at : ℕ} {f c : Form} {es rs : Forms} {a rest : Core} where
 
 -- ---- bindings
 
-nested_made : {d : Bool} {at o p w : ℕ} {bs es : Forms} {ns : Bounds} {c : Core} → operator_of w ≡ LetStar → Binds bs ns → Body at es c
-    → Expands d (applied at o w (more (list p bs proper) es)) (nested at ns c)
-nested_made e none_bound y = sugar (let_star_none e refl) (bound (word_is LetWord) refl none_bound y)
-nested_made e (one_bound x none_bound) y = sugar (let_star_one e) (bound (word_is LetWord) refl (one_bound x none_bound) y)
-nested_made e (one_bound x (one_bound z zs)) y =
-    sugar (let_star_more e) (bound (word_is LetWord) refl (one_bound x none_bound) (one_form (nested_made (word_is LetStarWord) (one_bound z zs) y)))
+nested_made : {d : Bool} {at o p w : ℕ} {f : Form} {fs es : Forms} {n : Binder} {c e : Core} {ns : Bounds} → operator_of w ≡ LetStar → Bind f n c → Binds fs ns → Body at es e
+    → Expands d (applied at o w (more (list p (more f fs) proper) es)) (nested at (and_bound n c ns) e)
+nested_made e x none_bound y = sugar (let_star_one e) (bound (word_is LetWord) refl (one_bound x none_bound) y)
+nested_made e x (one_bound z zs) y = sugar (let_star_more e) (bound (word_is LetWord) refl (one_bound x none_bound) (one_form (nested_made (word_is LetStarWord) z zs y)))
 
-none_nested : {d : Bool} {at o w : ℕ} {b : Form} {bs es : Forms} {ns : Bounds} {c : Core} → operator_of w ≡ LetStar → items_of b ≡ Some none → bs ≡ none → Binds bs ns → Body at es c
+let_star_made : {d : Bool} {at o w : ℕ} (b : Form) {bs es : Forms} {ns : Bounds} {c : Core} → operator_of w ≡ LetStar → items_of b ≡ Some bs → Binds bs ns → Body at es c
     → Expands d (applied at o w (more b es)) (nested at ns c)
-none_nested e h k none_bound y = sugar (let_star_none e h) (bound (word_is LetWord) h none_bound y)
-none_nested e h k (one_bound x xs) y = cc
-
-let_star_made : {d : Bool} {at o w : ℕ} (b : Form) (bs : Forms) {es : Forms} {ns : Bounds} {c : Core} → operator_of w ≡ LetStar → items_of b ≡ Some bs → Binds bs ns → Body at es c
-    → Expands d (applied at o w (more b es)) (nested at ns c)
-let_star_made (list p fs proper) bs e h x y = let same : fs ≡ bs = cc in rw same (nested_made e x y)
-let_star_made (list p fs (dotted t)) bs e h x y = cc
-let_star_made (atom p a) bs e h x y = let none_is = sym (nil_items (is_nil a) bs h) in none_nested e (h ∙ ap Some none_is) none_is x y
+let_star_made b e h none_bound y = sugar (let_star_none e h) (bound (word_is LetWord) h none_bound y)
+let_star_made (list p fs proper) {bs = bs} e h (one_bound x xs) y = let same : fs ≡ bs = cc in rw same (nested_made e x xs y)
+let_star_made (list p fs (dotted t)) e h (one_bound x xs) y = cc
+let_star_made (atom p a) {bs = bs} e h (one_bound x xs) y = let none_is = nil_items (is_nil a) bs h in cc
 
 -- ---- parts that fit
 
@@ -243,7 +236,7 @@ module _ {d : Bool} {at o w : ℕ} where
   pub let_made : {p r : Operator} {fs bs es : Forms} {ns : Bounds} {c : Core} → Fits r fs (parts.bindings bs es) → operator_of w ≡ r → p ≡ r → Binds bs ns → Body at es c
       → Expands d (applied at o w fs) (let_core p at ns c)
   let_made (fits_let h) e q x y = rw q (bound e h x y)
-  let_made (fits_let_star {b = b} {bs = bs} h) e q x y = rw q (let_star_made b bs e h x y)
+  let_made (fits_let_star {b = b} h) e q x y = rw q (let_star_made b e h x y)
 
   pub qlet_made : {r : Operator} {fs : Forms} {f : Form} {bs es : Forms} {a c : Core} {ns : Bounds} → Fits r fs (parts.form_and_bindings f bs es) → operator_of w ≡ r → Expands false f a → Binds bs ns
       → Body at es c → Expands d (applied at o w fs) (core at (qlet a ns c))

@@ -1,26 +1,21 @@
 -- What is wrong with a form is what is wrong in its parts.
-use Rattle.std.proofs.Common.{◌≡◌, ℕ, ◌+◌, ◌≤◌, List, [], ◌++◌, Option, Some, None, refl, ap, ◌∙◌}
+use Rattle.std.proofs.Common.{◌≡◌, ℕ, ◌+◌, ◌≤◌, List, [], ◌++◌, Option, Some, None, refl, sym, ap, ◌∙◌}
 use Rattle.std.specs.Prelude.{is_some, Bool, true, false, if◌then◌else◌, ◌==◌, ltb}
 use Rattle.std.proofs.lemmas.Bool.{le-ltb}
-use Rattle.ql_forms.specs.Form.{Form, Forms, none, more, atom, list, Tail, proper, dotted, symbol, integer, is_nil, items_of, operation_in, place_of, count}
+use Rattle.ql_forms.specs.Form.{Form, Forms, none, more, atom, list, Tail, proper, dotted, symbol, is_nil, items_of, operation_in, place_of, count}
 use Rattle.ql_base.specs.Refusal.{fault, unless}
 use Rattle.ql_base.specs.declared.refusal.Fault.{Fault}
 use Rattle.ql_base.specs.declared.refusal.FaultKind.TheVariants.{BadTop}
-use Rattle.ql_expand.specs.ExpandFault.{misshapen, unless_deep, unless_top, parts_of_bindings, where_fits, fits, under_sugar, form_faults, forms_faults, assignment_faults, binding_faults, form_and_binding_faults, lambda_faults, form_and_lambda_faults, definition_faults, bind_faults, clause_faults, shape_of_parameters, parameter_faults, parameters_faults}
+use Rattle.ql_expand.specs.ExpandFault.{misshapen, unless_deep, unless_top, where_fits, fits, under_sugar, form_faults, forms_faults, bind_faults, clause_faults, shape_of_parameters, parameter_faults, parameters_faults}
 use Rattle.ql_expand.proofs.Counts.{not_one}
 use Rattle.ql_expand.specs.Core.{Binder}
 use Rattle.ql_expand.specs.Expands.{binders_in, with_binder}
 use Rattle.ql_expand.specs.Operator.{operator_of, reading_of}
 use Rattle.ql_expand.specs.Parts as parts
-use Rattle.ql_expand.specs.Parts.{forms_by, datum_by, assignment_by, with_binds, bindings_by, after, form_and_bindings_by, parameters_by, form_and_parameters_by, definition_by, bind_in, clause_in}
+use Rattle.ql_expand.specs.Parts.{Split, forms_by, datum_by, assignment_by, with_binds, bindings_by, after, form_and_bindings_by, parameters_by, form_and_parameters_by, definition_by, bind_in, clause_in}
 use Rattle.ql_expand.specs.Searching.{split_faults, shallow_faults, operation_faults, read_faults, bound_faults, tested_faults, symbols_faults}
 use Rattle.ql_expand.specs.declared.operator.Reading.{Reading}
-use Rattle.ql_expand.specs.declared.operator.Reading.TheVariants.{Nothing, Datum, Forms as PlainForms, SugarForms, Operands, Assignment, Global, Bindings, SugarBindings, FormAndBindings, Parameters, FormAndParameters, Definition, Clauses}
-
-datum_is : (names : List (List ℕ)) (n at : ℕ) (fs : Forms) → where_fits (count fs == 1) at [] ≡ split_faults names n at (datum_by fs)
-datum_is names n at (more f none) = refl
-datum_is names n at (more f (more g fs)) = ap (λ b. where_fits b at []) (not_one (count fs))
-datum_is names n at fs = refl
+use Rattle.ql_expand.specs.declared.operator.Reading.TheVariants.{Datum, Forms as PlainForms, SugarForms, Operands, Assignment, Global, Bindings, SugarBindings, FormAndBindings, Parameters, FormAndParameters, Definition}
 
 forms_are : (names : List (List ℕ)) (n at low : ℕ) (high : Option ℕ) (fs : Forms)
     → where_fits (fits low high (count fs)) at (forms_faults names n fs) ≡ split_faults names n at (forms_by low high fs)
@@ -30,68 +25,40 @@ forms_are names n at low high fs = by_fit (fits low high (count fs))
     by_fit true = refl
     by_fit false = refl
 
-assignment_is : (names : List (List ℕ)) (n at : ℕ) (fs : Forms) → assignment_faults names n at fs ≡ split_faults names n at (assignment_by fs)
-assignment_is names n at (more (atom o (symbol v)) (more e none)) = refl
-assignment_is names n at fs = refl
+-- what nil and atoms that aren't are, where bindings stand
+nil_binds : (names : List (List ℕ)) (n at : ℕ) (put : Split → Split) (es : Forms) (b : Bool) → split_faults names n at (put parts.misshapen) ≡ misshapen at
+    → where_fits b at (split_faults names n at (put (parts.bindings none es))) ≡ split_faults names n at (put (with_binds (if b then Some none else None) es))
+nil_binds names n at put es true e = refl
+nil_binds names n at put es false e = sym e
 
-nil_binds : (names : List (List ℕ)) (n at : ℕ) (b : Bool) (es : Forms)
-    → where_fits b at (forms_faults names n es) ≡ split_faults names n at (with_binds (if b then Some none else None) es)
-nil_binds names n at true es = refl
-nil_binds names n at false es = refl
+above : (top : Bool) (at : ℕ) (xs : List Fault) → unless_top top at xs ≡ unless top (fault BadTop at) ++ xs
+above true at xs = refl
+above false at xs = refl
 
-binding_is : (names : List (List ℕ)) (n at : ℕ) (fs : Forms) → binding_faults names n at fs ≡ split_faults names n at (bindings_by fs)
-binding_is names n at (more (atom o a) es) = nil_binds names n at (is_nil a) es
-binding_is names n at (more (list o bs proper) es) = refl
-binding_is names n at fs = refl
-
-nil_binds_after : (names : List (List ℕ)) (n at : ℕ) (f : Form) (b : Bool) (es : Forms)
-    → where_fits b at (form_faults names false n f ++ forms_faults names n es)
-    ≡ split_faults names n at (after f (with_binds (if b then Some none else None) es))
-nil_binds_after names n at f true es = refl
-nil_binds_after names n at f false es = refl
-
-form_and_binding_is : (names : List (List ℕ)) (n at : ℕ) (fs : Forms)
-    → form_and_binding_faults names n at fs ≡ split_faults names n at (form_and_bindings_by fs)
-form_and_binding_is names n at (more f (more (atom o a) es)) = nil_binds_after names n at f (is_nil a) es
-form_and_binding_is names n at (more f (more (list o bs proper) es)) = refl
-form_and_binding_is names n at fs = refl
-
-lambda_is : (names : List (List ℕ)) (n at : ℕ) (fs : Forms) → lambda_faults names n at fs ≡ split_faults names n at (parameters_by fs)
-lambda_is names n at none = refl
-lambda_is names n at (more ps es) = refl
-
-form_and_lambda_is : (names : List (List ℕ)) (n at : ℕ) (fs : Forms)
-    → form_and_lambda_faults names n at fs ≡ split_faults names n at (form_and_parameters_by fs)
-form_and_lambda_is names n at (more f (more ps es)) = refl
-form_and_lambda_is names n at fs = refl
-
-definition_is : (names : List (List ℕ)) (n at : ℕ) (fs : Forms) → definition_faults names n at fs ≡ split_faults names n at (definition_by fs)
-definition_is names n at (more (atom o (symbol v)) (more ps es)) = refl
-definition_is names n at (more (atom o (integer z)) (more ps es)) = refl
-definition_is names n at (more (list o es t) (more ps bs)) = refl
-definition_is names n at fs = refl
-
-above : (top : Bool) (at : ℕ) (xs ys : List Fault) → xs ≡ ys → unless_top top at xs ≡ unless top (fault BadTop at) ++ ys
-above true at xs ys e = e
-above false at xs ys e = ap (λ zs. fault BadTop at ++ zs) e
-
-applied_is : (names : List (List ℕ)) (top : Bool) (n at o w : ℕ) (fs : Forms) (r : Reading) → reading_of (operator_of w) ≡ r
+-- A line for each shape that fits; the last one is that of all parts that fit none.
+applied_is : (names : List (List ℕ)) (top : Bool) (n at o w : ℕ) (r : Reading) (fs : Forms) → reading_of (operator_of w) ≡ r
     → form_faults names top n (list at (more (atom o (symbol w)) fs) proper) ≡ unless_deep n at (read_faults names top n at r fs)
-applied_is names top n at o w fs Nothing e = rw e refl
-applied_is names top n at o w fs Datum e = rw e (ap (unless_deep n at) (datum_is names (n + 1) at fs))
-applied_is names top n at o w fs (PlainForms low high) e = rw e (ap (unless_deep n at) (forms_are names (n + 1) at low high fs))
-applied_is names top n at o w fs (SugarForms low high) e = rw e (ap (unless_deep n at) (forms_are names (under_sugar n (count fs)) at low high fs))
-applied_is names top n at o w fs (Operands low) e =
+applied_is names top n at o w Datum (more f none) e = rw e refl
+applied_is names top n at o w Datum (more f (more g fs)) e = rw e (ap (λ b. unless_deep n at (where_fits b at [])) (not_one (count fs)))
+applied_is names top n at o w (PlainForms low high) fs e = rw e (ap (unless_deep n at) (forms_are names (n + 1) at low high fs))
+applied_is names top n at o w (SugarForms low high) fs e = rw e (ap (unless_deep n at) (forms_are names (under_sugar n (count fs)) at low high fs))
+applied_is names top n at o w (Operands low) fs e =
     rw e (ap (unless_deep n at) (forms_are names (if count fs == 2 then n + 1 else under_sugar n (count fs)) at low None fs))
-applied_is names top n at o w fs Assignment e = rw e (ap (unless_deep n at) (assignment_is names (n + 1) at fs))
-applied_is names top n at o w fs Global e = rw e (ap (unless_deep n at) (above top at _ _ (assignment_is names (n + 1) at fs)))
-applied_is names top n at o w fs Bindings e = rw e (ap (unless_deep n at) (binding_is names (n + 1) at fs))
-applied_is names top n at o w fs SugarBindings e = rw e (ap (unless_deep n at) (binding_is names (under_sugar n (parts_of_bindings fs)) at fs))
-applied_is names top n at o w fs FormAndBindings e = rw e (ap (unless_deep n at) (form_and_binding_is names (n + 1) at fs))
-applied_is names top n at o w fs Parameters e = rw e (ap (unless_deep n at) (lambda_is names (n + 1) at fs))
-applied_is names top n at o w fs FormAndParameters e = rw e (ap (unless_deep n at) (form_and_lambda_is names (n + 1) at fs))
-applied_is names top n at o w fs Definition e = rw e (ap (unless_deep n at) (above top at _ _ (definition_is names (n + 1) at fs)))
-applied_is names top n at o w fs Clauses e = rw e refl
+applied_is names top n at o w Assignment (more (atom p (symbol v)) (more f none)) e = rw e refl
+applied_is names top n at o w Global (more (atom p (symbol v)) (more f none)) e = rw e (ap (unless_deep n at) (above top at _))
+applied_is names top n at o w Global fs e = rw e (ap (unless_deep n at) (above top at _))
+applied_is names top n at o w Bindings (more (list p bs proper) es) e = rw e refl
+applied_is names top n at o w Bindings (more (atom p a) es) e = rw e (ap (unless_deep n at) (nil_binds names _ at (λ s. s) es (is_nil a) refl))
+applied_is names top n at o w SugarBindings (more (list p bs proper) es) e = rw e refl
+applied_is names top n at o w SugarBindings (more (atom p a) es) e = rw e (ap (unless_deep n at) (nil_binds names _ at (λ s. s) es (is_nil a) refl))
+applied_is names top n at o w FormAndBindings (more f (more (list p bs proper) es)) e = rw e refl
+applied_is names top n at o w FormAndBindings (more f (more (atom p a) es)) e = rw e (ap (unless_deep n at) (nil_binds names _ at (after f) es (is_nil a) refl))
+applied_is names top n at o w Parameters (more ps es) e = rw e refl
+applied_is names top n at o w FormAndParameters (more f (more ps es)) e = rw e refl
+applied_is names top n at o w Definition (more (atom p (symbol v)) (more ps es)) e = rw e (ap (unless_deep n at) (above top at _))
+applied_is names top n at o w Definition (more f (more ps es)) e = rw e (ap (unless_deep n at) (above top at _))
+applied_is names top n at o w Definition fs e = rw e (ap (unless_deep n at) (above top at _))
+applied_is names top n at o w r fs e = rw e refl
 
 deep_or_not : (b : Bool) (at : ℕ) → misshapen at ≡ (if b then misshapen at else misshapen at)
 deep_or_not true at = refl
@@ -99,7 +66,7 @@ deep_or_not false at = refl
 
 list_is : (names : List (List ℕ)) (top : Bool) (n at : ℕ) (fs : Forms) (t : Tail)
     → form_faults names top n (list at fs t) ≡ unless_deep n at (operation_faults names top n at (operation_in (list at fs t)))
-list_is names top n at (more (atom o (symbol w)) fs) proper = applied_is names top n at o w fs (reading_of (operator_of w)) refl
+list_is names top n at (more (atom o (symbol w)) fs) proper = applied_is names top n at o w (reading_of (operator_of w)) fs refl
 list_is names top n at fs t = deep_or_not (ltb 400 n) at
 
 pub form_is : (names : List (List ℕ)) (top : Bool) (n : ℕ) (f : Form) → form_faults names top n f ≡ unless_deep n (place_of f) (shallow_faults names top n f)

@@ -1,10 +1,11 @@
 -- Top forms, one after another.
-use Rattle.std.proofs.Common.{◌≡◌, ℕ, ◌+◌, ◌<◌, ◌≤◌, List, [], ◌∷◌, ◌++◌, drop, length, get_or, map, Some, None, Option, refl, sym, ap, ◌∙◌, subst, arith}
+use Rattle.std.proofs.Common.{◌≡◌, ℕ, ◌+◌, ◌<◌, ◌≤◌, List, [], ◌∷◌, ◌++◌, drop, length, get_or, map, Some, refl, sym, ap, ◌∙◌, subst, arith}
 use Rattle.std.specs.Prelude.{true, false}
 use Rattle.std.proofs.lemmas.List.{append-nil, append_assoc}
 use Rattle.std.proofs.lemmas.Option.{slice_get_within}
 use Rattle.ql_base.specs.Names.{BeginsWithReserved}
-use Rattle.ql_forms.specs.Form.{Form as Datum, Forms, none, more, atom, list, symbol, integer, operation_in, place_of}
+use Rattle.ql_base.specs.declared.refusal.Fault.{Fault}
+use Rattle.ql_forms.specs.Form.{Form as Datum, Forms, none, more, atom, list, proper, symbol, integer, operation_in, place_of}
 use Rattle.ql_forms.specs.View.{form_of, forms_of}
 use Rattle.ql_forms.specs.declared.form.Form.{Form}
 use Rattle.ql_expand.specs.Building.{IsFine, IsFineSplit}
@@ -14,18 +15,15 @@ use Rattle.ql_expand.specs.ExpandFault.{form_faults, source_faults, unless_deep}
 use Rattle.ql_expand.specs.Expands.{applied, parameters_in, Expands, Body, TopForms, no_tops, top_function, top_global, top_form}
 use Rattle.ql_expand.specs.Operator.{operator_of, reading_of}
 use Rattle.ql_expand.specs.Parts.{definition, assignment, definition_by, assignment_by, parts_by}
-use Rattle.ql_expand.specs.Searching.{split_faults, operation_faults, top_faults, level_below}
+use Rattle.ql_expand.specs.Searching.{split_faults, top_faults, level_below}
 use Rattle.ql_expand.specs.Tops.{IsFineTop, Adds, Made}
 use Rattle.ql_expand.specs.View.{binders_of, core_of, cores_of, function_of}
 use Rattle.ql_expand.specs.declared.core_form.Core.{Core}
 use Rattle.ql_expand.specs.declared.core_form.Function.{Function}
 use Rattle.ql_expand.specs.declared.operator.Operator.{Operator}
 use Rattle.ql_expand.specs.declared.operator.Operator.TheVariants.{Defun, Defvar}
-use Rattle.ql_expand.specs.declared.operator.Reading.{Reading}
-use Rattle.ql_expand.specs.declared.operator.Reading.TheVariants.{Global, Definition}
 use Rattle.ql_expand.specs.declared.top.Tops.{Tops}
-use Rattle.ql_expand.proofs.Fine.{neither, fine_operation, at_place}
-use Rattle.ql_expand.proofs.Built.{operation_shape}
+use Rattle.ql_expand.proofs.Fine.{neither, fine_operation, operation_shape, at_place}
 use Rattle.ql_expand.proofs.Splits.{form_is}
 use Rattle.ql_expand.proofs.Counts.{rest, nothing_left}
 use Rattle.ql_expand.proofs.Gathering.{cores_last, cores_alone}
@@ -90,39 +88,25 @@ fine_definition f p w fs h e k = subst (λ r. IsFineSplit (parts_by (reading_of 
 pub fine_global : (f : Datum) (p w : ℕ) (fs : Forms) → IsFineTop f → operation_in f ≡ Some ((p, w), fs) → Defvar ≡ operator_of w → IsFineSplit (assignment_by fs)
 fine_global f p w fs h e k = subst (λ r. IsFineSplit (parts_by (reading_of r) fs)) (sym k) (fine_parts f p w fs h e)
 
--- An operator that may stand inside may stand at the top.
-same_place : (r : Reading) (at : ℕ) → top_faults false 0 r ≡ [] → top_faults false at r ≡ top_faults true at r
-same_place Global at h = cc
-same_place Definition at h = cc
-same_place _ at h = refl
-
-same_operation : (names : List (List ℕ)) (at : ℕ) (o : Option ((ℕ × ℕ) × Forms)) → ((p : (ℕ × ℕ) × Forms) → o ≡ Some p → top_faults false 0 (reading_of (operator_of p.0.1)) ≡ [])
-    → operation_faults names false 1 at o ≡ operation_faults names true 1 at o
-same_operation names at None inside = refl
-same_operation names at (Some p) inside =
-    let r = reading_of (operator_of p.0.1) in ap (λ z. z ++ split_faults names (level_below r 1 p.1) at (parts_by r p.1)) (same_place r at (inside p refl))
+-- An operator that is no definition may stand inside as at the top.
+same_place : (r : Operator) (at : ℕ) → (r ≡ Defun → ⊥) → (r ≡ Defvar → ⊥) → top_faults false at (reading_of r) ≡ top_faults true at (reading_of r)
+same_place Defun at f g = absurd (f refl)
+same_place Defvar at f g = absurd (g refl)
+same_place _ at f g = refl
 
 -- a top form that defines nothing is a form
-pub fine_plain : (f : Datum) → IsFineTop f → ((o : (ℕ × ℕ) × Forms) → operation_in f ≡ Some o → top_faults false 0 (reading_of (operator_of o.0.1)) ≡ []) → IsFine f
-fine_plain (atom at a) (names, h) inside = (names, 1, h)
-fine_plain (list at fs t) (names, h) inside = (
-  names,
-  1,
-  form_is names false 1 (list at fs t)
-      ∙ ap (unless_deep 1 at) (same_operation names at (operation_in (list at fs t)) inside) ∙ sym (form_is names true 1 (list at fs t)) ∙ h,
-)
-
-by_operator : (r : Operator) → (r ≡ Defun → ⊥) → (r ≡ Defvar → ⊥) → top_faults false 0 (reading_of r) ≡ []
-by_operator Defun f g = absurd (f refl)
-by_operator Defvar f g = absurd (g refl)
-by_operator _ f g = refl
+pub fine_plain : (f : Datum) → IsFineTop f
+    → ((o : (ℕ × ℕ) × Forms) → operation_in f ≡ Some o → top_faults false (place_of f) (reading_of (operator_of o.0.1)) ≡ top_faults true (place_of f) (reading_of (operator_of o.0.1))) → IsFine f
+fine_plain (list at (more (atom o (symbol w)) fs) proper) (names, h) inside =
+    let q = reading_of (operator_of w) in
+    let put = λ (x : List Fault). unless_deep 1 at (x ++ split_faults names (level_below q 1 fs) at (parts_by q fs)) in
+    (names, 1, form_is names false 1 (applied at o w fs) ∙ ap put (inside ((o, w), fs) refl) ∙ sym (form_is names true 1 (applied at o w fs)) ∙ h)
+fine_plain f (names, h) inside = (names, 1, h)
 
 -- the operator of a form that defines nothing
 pub plain_operator : (f : Datum) (o p : (ℕ × ℕ) × Forms) (r : Operator) → operation_in f ≡ Some o → operation_in f ≡ Some p → r ≡ operator_of o.0.1 → (r ≡ Defun → ⊥) → (r ≡ Defvar → ⊥)
-    → top_faults false 0 (reading_of (operator_of p.0.1)) ≡ []
-plain_operator f o p r h i e f1 f2 =
-    let same : o ≡ p = cc in
-    subst (λ q. top_faults false 0 (reading_of (operator_of q.0.1)) ≡ []) same (subst (λ q. top_faults false 0 (reading_of q) ≡ []) e (by_operator r f1 f2))
+    → top_faults false (place_of f) (reading_of (operator_of p.0.1)) ≡ top_faults true (place_of f) (reading_of (operator_of p.0.1))
+plain_operator f o p r h i e no_function no_global = let same : o ≡ p = cc in rw (← same, ← e) (same_place r (place_of f) no_function no_global)
 
 -- A table of names has at least the reserved words.
 pub many_names : (names : List (List ℕ)) → BeginsWithReserved names → 46 ≤ length names

@@ -1,24 +1,19 @@
 -- The core that is made of cores made before. It serves the proofs.
-use Rattle.std.specs.Prelude.{ℕ, if◌then◌else◌}
+use Rattle.std.specs.Prelude.{ℕ, Bool, true, false, if◌then◌else◌}
 use Rattle.ql_base.specs.Reserved.{number}
 use Rattle.ql_base.specs.declared.reserved.Reserved.TheVariants.{Null, Greater, Less, Cons, True}
 use Rattle.ql_forms.specs.Form.{Atom, atom, integer, symbol}
 use Rattle.ql_expand.specs.Core.{named, hidden, Binder, binder, Core, core, Cores, no_cores, and_core, Bounds, no_bounds, and_bound, constant, variable, conditional, binding, primitive, call, catch, qcatch, throw, protect}
 use Rattle.ql_expand.specs.Expands.{nil_at, number_at}
 use Rattle.ql_expand.specs.Operator.{operator_of, is_constant}
-use Rattle.ql_expand.specs.declared.assemble.Way.{Way}
-use Rattle.ql_expand.specs.declared.assemble.Way.TheVariants as ways
 use Rattle.ql_expand.specs.declared.operator.Operator.{Operator}
-use Rattle.ql_expand.specs.declared.operator.Operator.TheVariants.{If, Progn, Funcall, Print, Catch, Qcatch, Throw, Protect, When, Unless, Sum, Difference, Product, Not, AtMost, AtLeast, And, Or, LetStar, List as ListOf, Call}
+use Rattle.ql_expand.specs.declared.operator.Operator.TheVariants.{Catch, Qcatch, Throw, Protect, When, Unless, Sum, Difference, Product, Not, AtMost, AtLeast, And, Or, LetStar, List as ListOf, Call}
 
 abbrev pub nil_core : ℕ → Core
 nil_core at = core at (constant (nil_at at))
 
 abbrev pub number_core : ℕ → ℕ → Core
 number_core at n = core at (constant (number_at at n))
-
-abbrev pub true_core : ℕ → Core
-true_core at = core at (constant (atom at (symbol (number True))))
 
 -- an atom that stands alone
 abbrev pub atom_core : ℕ → Atom → Core
@@ -51,7 +46,7 @@ chain o at (and_core c cs) rest = linked o at c (chain o at cs rest)
 
 -- `and` and `or` of no forms
 abbrev pub of_none : Operator → ℕ → Core
-of_none And at = true_core at
+of_none And at = core at (constant (atom at (symbol (number True))))
 of_none _ at = nil_core at
 
 abbrev pub all_linked : Operator → ℕ → Cores → Core
@@ -106,16 +101,12 @@ of_each ListOf at o w cs = chain ListOf at cs (nil_core at)
 of_each Call at o w cs = core at (call w o cs)
 of_each _ at o w cs = core at (primitive w cs)
 
--- how the forms after an operator are built
-abbrev pub way_of : Operator → Way
-way_of Progn = ways.InTurn
-way_of Print = ways.Printed
-way_of If = ways.Tested
-way_of Funcall = ways.Applied
-way_of Catch = ways.BeforeBody
-way_of Qcatch = ways.BeforeBody
-way_of Throw = ways.BeforeBody
-way_of Protect = ways.BeforeBody
-way_of When = ways.BeforeBody
-way_of Unless = ways.BeforeBody
-way_of _ = ways.Each
+-- whether a form and a body stand after this operator
+abbrev pub has_body : Operator → Bool
+has_body Catch = true
+has_body Qcatch = true
+has_body Throw = true
+has_body Protect = true
+has_body When = true
+has_body Unless = true
+has_body _ = false

@@ -116,7 +116,6 @@ clause_in _ = None
 
 -- the parts that a value stands for
 abbrev pub split_of : Parts → Split
-split_of values.Misshapen = misshapen
 split_of (values.Datum f) = datum (form_of f.now)
 split_of (values.Forms fs) = forms (forms_of fs.now)
 split_of (values.Assignment v e) = assignment v.at.0 v.number (form_of e.now)
@@ -126,3 +125,7 @@ split_of (values.Parameters ps es) = parameters (form_of ps.now) (forms_of es.no
 split_of (values.FormAndParameters f ps es) = form_and_parameters (form_of f.now) (form_of ps.now) (forms_of es.now)
 split_of (values.Definition v ps es) = definition v.at.0 v.number (form_of ps.now) (forms_of es.now)
 split_of (values.Clauses cs) = clauses (forms_of cs.now)
+
+abbrev pub split_in : Option Parts → Split
+split_in None = misshapen
+split_in (Some p) = split_of p

@@ -1,9 +1,11 @@
 -- What is wrong in parts that are split. It serves the proofs.
-use Rattle.std.specs.Prelude.{◌≡◌, ℕ, ◌+◌, ◌==◌, Bool, false, if◌then◌else◌, List, [], ◌++◌, Option, Some, None}
+use Rattle.std.specs.Prelude.{◌≡◌, ℕ, ◌+◌, ◌==◌, Bool, false, if◌then◌else◌, List, [], ◌++◌, drop, Option, Some, None}
 use Rattle.ql_base.specs.Refusal.{fault, first_of, unless}
 use Rattle.ql_base.specs.declared.refusal.Fault.{Fault}
 use Rattle.ql_base.specs.declared.refusal.FaultKind.TheVariants.{BadTop}
 use Rattle.ql_forms.specs.Form.{Form, Forms, none, more, symbol_in, is_atom, operation_in, place_of, count}
+use Rattle.ql_forms.specs.View.{forms_of}
+use Rattle.ql_forms.specs.declared.form.Form.{Form as FormValue}
 use Rattle.ql_expand.specs.ExpandFault.{misshapen, under_sugar, parts_of_bindings, variable_faults, function_faults, parameter_faults, parameters_faults, form_faults, forms_faults, binds_faults, clauses_faults}
 use Rattle.ql_expand.specs.Operator.{operator_of, reading_of}
 use Rattle.ql_expand.specs.Parts as parts
@@ -73,3 +75,7 @@ symbols_faults names (more f fs) = named_faults names (symbol_in f) ++ symbols_f
 -- The search has gone on past these faults, and has its names still.
 abbrev pub Past : Search → Search → List Fault → Type 0
 Past s t faults = (t.names ≡ s.names) × (t.first ≡ first_of s.first faults)
+
+-- What is wrong in the forms from this place on is still to be gone past, of all that was to be.
+abbrev pub Going : Search → Search → (Forms → List Fault) → List FormValue → ℕ → Type 0
+Going s t faults xs i = (t.names ≡ s.names) × (first_of t.first (faults (forms_of (drop i xs))) ≡ first_of s.first (faults (forms_of xs)))

@@ -4,7 +4,7 @@ ghost use Rattle.std.specs.Prelude.{◌≡◌, IfOk, [], ◌∷◌, reverse};
 ghost use Rattle.ql_base.specs.Reserved.{number};
 ghost use Rattle.ql_forms.specs.View.{atom_of, form_of};
 ghost use Rattle.ql_forms.specs.Form.{atom};
-ghost use Rattle.ql_expand.specs.Assembly.{one_bound, nil_core, atom_core, with_one, with_two, either, linked, chain, all_linked, folded, operands, under, nested, let_core, before_body, of_each, way_of};
+ghost use Rattle.ql_expand.specs.Assembly.{one_bound, nil_core, atom_core, with_one, with_two, either, linked, chain, all_linked, folded, operands, under, nested, let_core, before_body, of_each, has_body};
 ghost use Rattle.ql_expand.specs.Core.{binder, binding, call, core, constant, conditional, funcall, hidden, lambda, named, primitive, print, progn, qlambda, qlet, setq, variable};
 ghost use Rattle.ql_expand.specs.View.{binders_of, bound_of, bounds_of, core_of, cores_of, name_of, node_of};
 
@@ -25,40 +25,27 @@ pub type Made<'a> = Result<Core<'a>, AllocError>;
 /// core is to look at each kind of it, at every call that may fail, and the proof would look there too.
 pub type Child<'a> = Boxed<Core<'a>>;
 
-/// How the forms after an operator are built.
-#[derive(Clone, Copy, Debug, PartialEq, Eq)]
-pub enum Way {
-    /// As a body.
-    InTurn,
-    /// As a body that is printed.
-    Printed,
-    /// A test, the form after it, and a body of at most one form.
-    Tested,
-    /// A closure and its arguments.
-    Applied,
-    /// A form and a body.
-    BeforeBody,
-    /// Each by itself.
-    Each,
+/// Whether a form and a body stand after this operator.
+pub fn has_body(operator: Operator) -> bool
+    ensures { result ≡ has_body operator }
+{
+    matches!(
+        operator,
+        Operator::Catch
+            | Operator::Qcatch
+            | Operator::Throw
+            | Operator::Protect
+            | Operator::When
+            | Operator::Unless
+    )
 }
 
-/// How the forms after this operator are built.
-pub fn way_of(operator: Operator) -> Way
-    ensures { result ≡ way_of operator }
+/// A variable and its first value.
+pub fn bound_to<'a>(at: Offset, name: VarName, value: Core<'a>) -> Bound<'a>
+    ensures { bound_of result ≡ (binder at.0 (name_of name), core_of value.entry) }
 {
-    match operator {
-        Operator::Progn => Way::InTurn,
-        Operator::Print => Way::Printed,
-        Operator::If => Way::Tested,
-        Operator::Funcall => Way::Applied,
-        Operator::Catch
-        | Operator::Qcatch
-        | Operator::Throw
-        | Operator::Protect
-        | Operator::When
-        | Operator::Unless => Way::BeforeBody,
-        _ => Way::Each,
-    }
+    let binder = Binder { at, name };
+    Bound { binder, value }
 }
 
 // This item alone.
@@ -103,12 +90,6 @@ impl Maker {
         }))
     }
 
-    fn variable<'a>(self, name: VarName) -> Core<'a>
-        ensures { core_of result ≡ core self.at.0 (variable (name_of name)) }
-    {
-        self.core(Node::Var(name))
-    }
-
     /// An atom that stands alone.
     pub fn atom<'a>(self, value: Atom) -> Core<'a>
         ensures { core_of result ≡ atom_core self.at.0 (atom_of value) }
@@ -117,7 +98,7 @@ impl Maker {
             Atom::Int(_) => self.constant(value),
             Atom::Sym(number) => match operator_of(number) {
                 Operator::Constant => self.constant(value),
-                _ => self.variable(VarName::Sym(number)),
+                _ => self.core(Node::Var(VarName::Sym(number))),
             },
         }
     }
@@ -171,23 +152,13 @@ impl Maker {
         self.core(Node::If { test, then, other })
     }
 
-    fn hidden<'a>(self, value: Core<'a>) -> Bound<'a>
-        ensures { bound_of result ≡ (binder self.at.0 (hidden 0), core_of value.entry) }
-    {
-        let binder = Binder {
-            at: self.at,
-            name: VarName::Hidden(0),
-        };
-        Bound { binder, value }
-    }
-
     /// The first core, or else the second.
     pub fn either<'a>(self, first: Core<'a>, second: Child<'a>) -> Made<'a>
         ensures { IfOk result (λ c. core_of c ≡ either self.at.0 (core_of first.entry) (core_of second.entry)) }
     {
-        let binds = one_item(self.alloc, self.hidden(first))?;
-        let test = Boxed::new(self.alloc, self.variable(VarName::Hidden(0)))?;
-        let then = Boxed::new(self.alloc, self.variable(VarName::Hidden(0)))?;
+        let binds = one_item(self.alloc, bound_to(self.at, VarName::Hidden(0), first))?;
+        let test = Boxed::new(self.alloc, self.core(Node::Var(VarName::Hidden(0))))?;
+        let then = Boxed::new(self.alloc, self.core(Node::Var(VarName::Hidden(0))))?;
         let body = Boxed::new(self.alloc, self.conditional(test, then, second))?;
         Ok(self.binding(binds, body))
     }
@@ -215,15 +186,14 @@ impl Maker {
 
     // Forms before the rest, from the last one.
     #[tactic(auto, using(crate::proofs::Assembles::chain_last))]
-    fn chain<'a>(self, operator: Operator, cores: Vec<Core<'a>>, rest: Child<'a>) -> Made<'a>
+    fn chain<'a>(self, operator: Operator, cores: Vec<Core<'a>>, mut rest: Child<'a>) -> Made<'a>
         ensures { IfOk result (λ c. core_of c ≡ chain operator self.at.0 (cores_of cores.entry.items) (core_of rest.entry)) }
     {
         let mut before = cores;
-        let mut whole = rest;
         while let Some(core) = before.pop() {
-            whole = self.linked(operator, core, whole)?;
+            rest = self.linked(operator, core, rest)?;
         }
-        Ok(whole.into_inner())
+        Ok(rest.into_inner())
     }
 
     // Forms of `and` or `or`, of which the last is the rest.
@@ -245,12 +215,10 @@ impl Maker {
 
     // Operands of an operator of two, the last one first.
     #[tactic(auto, using(crate::proofs::Assembles::folded_last))]
-    fn folded<'a>(self, op: u32, first: Child<'a>, reversed: Vec<Core<'a>>) -> Made<'a>
-        ensures { IfOk result (λ c. core_of c ≡ folded self.at.0 op (core_of first.entry) (cores_of (reverse reversed.entry.items))) }
+    fn folded<'a>(self, op: u32, mut sum: Child<'a>, mut reversed: Vec<Core<'a>>) -> Made<'a>
+        ensures { IfOk result (λ c. core_of c ≡ folded self.at.0 op (core_of sum.entry) (cores_of (reverse reversed.entry.items))) }
     {
-        let mut rest = reversed;
-        let mut sum = first;
-        while let Some(core) = rest.pop() {
+        while let Some(core) = reversed.pop() {
             let both = self.with_two(op, sum.into_inner(), core)?;
             sum = Boxed::new(self.alloc, both)?;
         }
@@ -292,15 +260,13 @@ impl Maker {
 
     // A body under bindings, from the last one.
     #[tactic(auto, using(crate::proofs::Assembles::under_last))]
-    fn under<'a>(self, binds: Items<Bound<'a>>, body: Child<'a>) -> Made<'a>
+    fn under<'a>(self, mut binds: Items<Bound<'a>>, mut body: Child<'a>) -> Made<'a>
         ensures { IfOk result (λ c. core_of c ≡ under self.at.0 (bounds_of binds.entry) (core_of body.entry)) }
     {
-        let mut before = binds;
-        let mut whole = body;
-        while let Some(bind) = before.pop() {
-            whole = self.one_binding(bind, whole)?;
+        while let Some(bind) = binds.pop() {
+            body = self.one_binding(bind, body)?;
         }
-        Ok(whole.into_inner())
+        Ok(body.into_inner())
     }
 
     // A body under bindings of which each sees those before it.

@@ -10,7 +10,7 @@ ghost use Rattle.ql_expand.specs.Operator.{operator_of, reading_of};
 ghost use Rattle.ql_expand.specs.Parts.{split_of};
 ghost use Rattle.ql_expand.specs.View.{binders_of, bound_of, bounds_of, core_of, cores_of};
 
-use crate::assemble::{Child, Made, Maker, Way, way_of};
+use crate::assemble::{Child, Made, Maker, bound_to, has_body};
 use crate::core_form::{Binder, Bound, Core, VarName};
 use crate::operator::{Operator, operator_of};
 use crate::parts::{Parts, bind_of, clause_of, read};
@@ -64,7 +64,10 @@ fn fitting<'a>(at: Offset, head: Symbol, parts: &'a [Form]) -> Parts<'a>
     ensures fits { Fits (operator_of head.number) (forms_of parts.now) (split_of result) }
     ensures size { split_weight (split_of result) ≤ weights (forms_of parts.now) }
 {
-    read(operator_of(head.number).reading(), parts)
+    match read(operator_of(head.number).reading(), parts) {
+        None => unreachable!(),
+        Some(split) => split,
+    }
 }
 
 // A list with this operator.
@@ -75,7 +78,6 @@ fn applied<'a>(make: Maker, dropped: bool, head: Symbol, parts: &'a [Form]) -> M
     ensures { IfOk result (λ c. Expands dropped (applied make.at.0 head.at.0 head.number (forms_of parts.now)) (core_of c)) }
 {
     match fitting(make.at, head, parts) {
-        Parts::Misshapen => unreachable!(),
         Parts::Definition { .. } => unreachable!(),
         Parts::Datum(datum) => Ok(make.quoted(datum)),
         Parts::Forms(_) => of_forms(make, dropped, operator_of(head.number), head, parts),
@@ -143,7 +145,7 @@ fn boxed_body<'a>(make: Maker, forms: &'a [Form]) -> Result<Child<'a>, AllocErro
 
 // Forms whose values are all dropped, or all used.
 #[cycle(build)]
-#[tactic(auto, using(crate::proofs::Weights::weight_at, crate::proofs::Fine::fine_at))]
+#[tactic(auto, using(crate::proofs::Fine::weight_at, crate::proofs::Fine::fine_at))]
 fn each<'a>(alloc: Global, dropped: bool, forms: &'a [Form]) -> Result<Vec<Core<'a>>, AllocError>
     requires { AreFine (forms_of forms.now) }
     ensures { IfOk result (λ cores. EachOf dropped (forms_of forms.now) (cores_of cores.items)) }
@@ -158,7 +160,7 @@ fn each<'a>(alloc: Global, dropped: bool, forms: &'a [Form]) -> Result<Vec<Core<
 
 // Bindings.
 #[cycle(build)]
-#[tactic(auto, using(crate::proofs::Weights::weight_at, crate::proofs::Fine::fine_bind_at))]
+#[tactic(auto, using(crate::proofs::Fine::weight_at, crate::proofs::Fine::fine_bind_at))]
 fn all_bound<'a>(alloc: Global, forms: &'a [Form]) -> Result<Items<Bound<'a>>, AllocError>
     requires { AreFineBinds (forms_of forms.now) }
     ensures { IfOk result (λ bounds. Binds (forms_of forms.now) (bounds_of bounds)) }
@@ -177,30 +179,20 @@ fn bind<'a>(alloc: Global, form: &'a Form) -> Result<Bound<'a>, AllocError>
     requires { IsFineBind (form_of form.now) }
     ensures { IfOk result (λ b. Bind (form_of form.now) (bound_of b).0 (bound_of b).1) }
 {
-    let Some(found) = bind_of(form) else {
+    let Some((variable, value)) = bind_of(form) else {
         unreachable!()
     };
-    let variable = found.variable;
-    match found.value {
+    let name = VarName::Sym(variable.number);
+    match value {
         None => {
             let at = variable.at;
-            Ok(bound_to(variable, Maker { alloc, at }.nil()))
+            Ok(bound_to(at, name, Maker { alloc, at }.nil()))
         }
         Some(value) => {
             let value = expanded(alloc, false, value)?;
-            Ok(bound_to(variable, value))
+            Ok(bound_to(variable.at, name, value))
         }
     }
-}
-
-fn bound_to<'a>(variable: Symbol, value: Core<'a>) -> Bound<'a>
-    ensures { bound_of result ≡ (binder variable.at.0 (named variable.number), core_of value.entry) }
-{
-    let binder = Binder {
-        at: variable.at,
-        name: VarName::Sym(variable.number),
-    };
-    Bound { binder, value }
 }
 
 // Clauses.
@@ -285,13 +277,13 @@ fn of_forms<'a>(
     requires fine { AreFine (forms_of forms.now) }
     ensures { IfOk result (λ c. Expands dropped (applied make.at.0 head.at.0 head.number (forms_of forms.now)) (core_of c)) }
 {
-    match way_of(operator) {
-        Way::InTurn => body(make, forms),
-        Way::Printed => {
+    match operator {
+        Operator::Progn => body(make, forms),
+        Operator::Print => {
             let value = boxed_body(make, forms)?;
             Ok(make.print(value))
         }
-        Way::Tested => {
+        Operator::If => {
             let (test, branches) = split_first(forms);
             let (then, others) = split_first(branches);
             let test = boxed(make.alloc, test)?;
@@ -299,19 +291,19 @@ fn of_forms<'a>(
             let other = boxed_body(make, others)?;
             Ok(make.conditional(test, then, other))
         }
-        Way::Applied => {
+        Operator::Funcall => {
             let (function, others) = split_first(forms);
             let fun = boxed(make.alloc, function)?;
             let args = each(make.alloc, false, others)?;
             Ok(make.funcall(dropped, fun, args))
         }
-        Way::BeforeBody => {
+        _ if has_body(operator) => {
             let (form, others) = split_first(forms);
             let first = boxed(make.alloc, form)?;
             let body = boxed_body(make, others)?;
             make.before_body(operator, first, body)
         }
-        Way::Each => {
+        _ => {
             let cores = each(make.alloc, passes(operator, dropped, forms), forms)?;
             make.of_each(operator, head, cores)
         }

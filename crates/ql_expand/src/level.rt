@@ -19,8 +19,8 @@ pub fn level_below(reading: Reading, level: u128, parts: &[Form]) -> u128
 {
     let count = parts.len() as u128;
     match reading {
-        Reading::SugarForms { .. } | Reading::Clauses => under_sugar(level, count),
-        Reading::Operands { .. } if count != 2 => under_sugar(level, count),
+        Reading::SugarForms(..) | Reading::Clauses => under_sugar(level, count),
+        Reading::Operands(_) if count != 2 => under_sugar(level, count),
         Reading::SugarBindings => under_sugar(level, parts_of_bindings(parts)),
         _ => level + 1,
     }

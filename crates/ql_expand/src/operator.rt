@@ -60,12 +60,12 @@ pub enum Reading {
     Nothing,
     /// One datum.
     Datum,
-    /// Forms of a core form.
-    Forms { least: usize, most: Option<usize> },
+    /// Forms of a core form: at least so many, and at most so many.
+    Forms(usize, Option<usize>),
     /// Forms of a sugar form.
-    SugarForms { least: usize, most: Option<usize> },
+    SugarForms(usize, Option<usize>),
     /// Operands: two are those of a core form, any other number those of a sugar form.
-    Operands { least: usize },
+    Operands(usize),
     /// A variable and its value.
     Assignment,
     /// The name of a global and its value.
@@ -160,30 +160,18 @@ impl Operator {
             Operator::Qlet => Reading::FormAndBindings,
             Operator::Cond => Reading::Clauses,
             Operator::LetStar => Reading::SugarBindings,
-            Operator::Sum | Operator::Product => Reading::Operands { least: 0 },
-            Operator::Difference => Reading::Operands { least: 1 },
-            Operator::Progn | Operator::Call => forms(0, None),
-            Operator::If => forms(2, Some(3)),
-            Operator::Catch | Operator::Qcatch | Operator::Funcall => forms(1, None),
-            Operator::Throw | Operator::Binary => forms(2, Some(2)),
-            Operator::Protect => forms(2, None),
-            Operator::Print | Operator::Unary => forms(1, Some(1)),
-            Operator::Not => sugar_forms(1, Some(1)),
-            Operator::AtMost | Operator::AtLeast => sugar_forms(2, Some(2)),
-            Operator::And | Operator::Or | Operator::List => sugar_forms(0, None),
-            Operator::When | Operator::Unless => sugar_forms(1, None),
+            Operator::Sum | Operator::Product => Reading::Operands(0),
+            Operator::Difference => Reading::Operands(1),
+            Operator::Progn | Operator::Call => Reading::Forms(0, None),
+            Operator::If => Reading::Forms(2, Some(3)),
+            Operator::Catch | Operator::Qcatch | Operator::Funcall => Reading::Forms(1, None),
+            Operator::Throw | Operator::Binary => Reading::Forms(2, Some(2)),
+            Operator::Protect => Reading::Forms(2, None),
+            Operator::Print | Operator::Unary => Reading::Forms(1, Some(1)),
+            Operator::Not => Reading::SugarForms(1, Some(1)),
+            Operator::AtMost | Operator::AtLeast => Reading::SugarForms(2, Some(2)),
+            Operator::And | Operator::Or | Operator::List => Reading::SugarForms(0, None),
+            Operator::When | Operator::Unless => Reading::SugarForms(1, None),
         }
     }
-}
-
-fn forms(least: usize, most: Option<usize>) -> Reading
-    ensures { result ≡ Reading.Forms least most }
-{
-    Reading::Forms { least, most }
-}
-
-fn sugar_forms(least: usize, most: Option<usize>) -> Reading
-    ensures { result ≡ Reading.SugarForms least most }
-{
-    Reading::SugarForms { least, most }
 }

@@ -3,7 +3,7 @@
 ghost use Rattle.std.specs.Prelude.{◌≡◌, MatchOption, Some, None, option_map};
 ghost use Rattle.ql_forms.specs.View.{form_of, forms_of};
 ghost use Rattle.ql_expand.specs.ExpandFault.{fits};
-ghost use Rattle.ql_expand.specs.Parts.{split_of, parts_by, bind_in, with_value, clause_in, only_in, datum_by, forms_by, assignment_by, bindings_by, form_and_bindings_by, parameters_by, form_and_parameters_by, definition_by};
+ghost use Rattle.ql_expand.specs.Parts.{split_in, parts_by, bind_in, with_value, clause_in, only_in, forms_by, assignment_by, bindings_by, form_and_bindings_by, parameters_by, form_and_parameters_by, definition_by};
 
 use crate::operator::Reading;
 use ql_forms::form::{Form, Symbol, first_of};
@@ -11,8 +11,6 @@ use ql_forms::form::{Form, Symbol, first_of};
 /// The parts of a list after its operator, as they fit the shape that the operator wants.
 #[derive(Clone, Copy)]
 pub enum Parts<'a> {
-    /// They fit no shape.
-    Misshapen,
     /// What is quoted.
     Datum(&'a Form),
     /// As many forms as are wanted.
@@ -49,25 +47,23 @@ pub enum Parts<'a> {
     Clauses(&'a [Form]),
 }
 
-/// The parts that are read like this.
-pub fn read<'a>(reading: Reading, parts: &'a [Form]) -> Parts<'a>
-    ensures { split_of result ≡ parts_by reading (forms_of parts.now) }
+/// The parts that are read like this, where they fit its shape.
+pub fn read<'a>(reading: Reading, parts: &'a [Form]) -> Option<Parts<'a>>
+    ensures { split_in result ≡ parts_by reading (forms_of parts.now) }
 {
     match reading {
-        Reading::Nothing => Parts::Misshapen,
-        Reading::Datum => datum(parts),
-        Reading::Forms { least, most } => forms(least, most, parts),
-        Reading::SugarForms { least, most } => forms(least, most, parts),
-        Reading::Operands { least } => forms(least, None, parts),
-        Reading::Assignment => assignment(parts),
-        Reading::Global => assignment(parts),
-        Reading::Bindings => bindings(parts),
-        Reading::SugarBindings => bindings(parts),
+        Reading::Nothing => None,
+        Reading::Datum => Some(Parts::Datum(only(parts)?)),
+        Reading::Forms(least, most) => forms(least, most, parts),
+        Reading::SugarForms(least, most) => forms(least, most, parts),
+        Reading::Operands(least) => forms(least, None, parts),
+        Reading::Assignment | Reading::Global => assignment(parts),
+        Reading::Bindings | Reading::SugarBindings => bindings(parts),
         Reading::FormAndBindings => form_and_bindings(parts),
         Reading::Parameters => parameters(parts),
         Reading::FormAndParameters => form_and_parameters(parts),
         Reading::Definition => definition(parts),
-        Reading::Clauses => Parts::Clauses(parts),
+        Reading::Clauses => Some(Parts::Clauses(parts)),
     }
 }
 
@@ -82,25 +78,12 @@ fn only(forms: &[Form]) -> Option<&Form>
     }
 }
 
-fn datum<'a>(parts: &'a [Form]) -> Parts<'a>
-    ensures { split_of result ≡ datum_by (forms_of parts.now) }
-{
-    match only(parts) {
-        Some(form) => Parts::Datum(form),
-        None => Parts::Misshapen,
-    }
-}
-
 // So many forms, as are wanted.
 #[tactic(auto, using(crate::proofs::Counts::as_many))]
-fn forms<'a>(least: usize, most: Option<usize>, parts: &'a [Form]) -> Parts<'a>
-    ensures { split_of result ≡ forms_by least most (forms_of parts.now) }
+fn forms<'a>(least: usize, most: Option<usize>, parts: &'a [Form]) -> Option<Parts<'a>>
+    ensures { split_in result ≡ forms_by least most (forms_of parts.now) }
 {
-    if fits(least, most, parts.len()) {
-        Parts::Forms(parts)
-    } else {
-        Parts::Misshapen
-    }
+    fits(least, most, parts.len()).then_some(Parts::Forms(parts))
 }
 
 // Whether so many parts are wanted.
@@ -113,119 +96,80 @@ fn fits(least: usize, most: Option<usize>, parts: usize) -> bool
     }
 }
 
-fn assignment<'a>(parts: &'a [Form]) -> Parts<'a>
-    ensures { split_of result ≡ assignment_by (forms_of parts.now) }
+fn assignment<'a>(parts: &'a [Form]) -> Option<Parts<'a>>
+    ensures { split_in result ≡ assignment_by (forms_of parts.now) }
 {
-    let Some((variable, others)) = first_of(parts) else {
-        return Parts::Misshapen;
-    };
-    match (variable.symbol(), only(others)) {
-        (Some(variable), Some(value)) => Parts::Assignment { variable, value },
-        _ => Parts::Misshapen,
-    }
+    let (variable, others) = first_of(parts)?;
+    let variable = variable.symbol()?;
+    let value = only(others)?;
+    Some(Parts::Assignment { variable, value })
 }
 
-fn bindings<'a>(parts: &'a [Form]) -> Parts<'a>
-    ensures { split_of result ≡ bindings_by (forms_of parts.now) }
+fn bindings<'a>(parts: &'a [Form]) -> Option<Parts<'a>>
+    ensures { split_in result ≡ bindings_by (forms_of parts.now) }
 {
-    let Some((binds, body)) = first_of(parts) else {
-        return Parts::Misshapen;
-    };
-    match binds.items() {
-        Some(binds) => Parts::Bindings { binds, body },
-        None => Parts::Misshapen,
-    }
+    let (binds, body) = first_of(parts)?;
+    let binds = binds.items()?;
+    Some(Parts::Bindings { binds, body })
 }
 
-fn form_and_bindings<'a>(parts: &'a [Form]) -> Parts<'a>
-    ensures { split_of result ≡ form_and_bindings_by (forms_of parts.now) }
+fn form_and_bindings<'a>(parts: &'a [Form]) -> Option<Parts<'a>>
+    ensures { split_in result ≡ form_and_bindings_by (forms_of parts.now) }
 {
-    let Some((form, others)) = first_of(parts) else {
-        return Parts::Misshapen;
-    };
-    match bindings(others) {
-        Parts::Bindings { binds, body } => Parts::FormAndBindings { form, binds, body },
-        _ => Parts::Misshapen,
-    }
+    let (form, others) = first_of(parts)?;
+    let (binds, body) = first_of(others)?;
+    let binds = binds.items()?;
+    Some(Parts::FormAndBindings { form, binds, body })
 }
 
-fn parameters<'a>(parts: &'a [Form]) -> Parts<'a>
-    ensures { split_of result ≡ parameters_by (forms_of parts.now) }
+fn parameters<'a>(parts: &'a [Form]) -> Option<Parts<'a>>
+    ensures { split_in result ≡ parameters_by (forms_of parts.now) }
 {
-    match first_of(parts) {
-        Some((params, body)) => Parts::Parameters { params, body },
-        None => Parts::Misshapen,
-    }
+    let (params, body) = first_of(parts)?;
+    Some(Parts::Parameters { params, body })
 }
 
-fn form_and_parameters<'a>(parts: &'a [Form]) -> Parts<'a>
-    ensures { split_of result ≡ form_and_parameters_by (forms_of parts.now) }
+fn form_and_parameters<'a>(parts: &'a [Form]) -> Option<Parts<'a>>
+    ensures { split_in result ≡ form_and_parameters_by (forms_of parts.now) }
 {
-    let Some((form, others)) = first_of(parts) else {
-        return Parts::Misshapen;
-    };
-    match first_of(others) {
-        Some((params, body)) => Parts::FormAndParameters { form, params, body },
-        None => Parts::Misshapen,
-    }
+    let (form, others) = first_of(parts)?;
+    let (params, body) = first_of(others)?;
+    Some(Parts::FormAndParameters { form, params, body })
 }
 
-fn definition<'a>(parts: &'a [Form]) -> Parts<'a>
-    ensures { split_of result ≡ definition_by (forms_of parts.now) }
+fn definition<'a>(parts: &'a [Form]) -> Option<Parts<'a>>
+    ensures { split_in result ≡ definition_by (forms_of parts.now) }
 {
-    let Some((name, others)) = first_of(parts) else {
-        return Parts::Misshapen;
-    };
-    let Some((params, body)) = first_of(others) else {
-        return Parts::Misshapen;
-    };
-    match name.symbol() {
-        Some(name) => Parts::Definition { name, params, body },
-        None => Parts::Misshapen,
-    }
+    let (name, others) = first_of(parts)?;
+    let (params, body) = first_of(others)?;
+    let name = name.symbol()?;
+    Some(Parts::Definition { name, params, body })
 }
 
-/// A binding.
-#[derive(Clone, Copy)]
-pub struct Bind<'a> {
-    pub variable: Symbol,
-    pub value: Option<&'a Form>,
-}
-
-/// What a form binds, as `(v e)`, `(v)` or `v`.
-pub fn bind_of(form: &Form) -> Option<Bind>
+/// The variable that a form binds, as `(v e)`, `(v)` or `v`, and the form of its value.
+pub fn bind_of(form: &Form) -> Option<(Symbol, Option<&Form>)>
     ensures { MatchOption result (bind_in (form_of form.now) ≡ None)
-        (λ b. bind_in (form_of form.now) ≡ Some ((b.variable.at.0, b.variable.number), option_map (λ e. form_of e.now) b.value)) }
+        (λ b. bind_in (form_of form.now) ≡ Some ((b.0.at.0, b.0.number), option_map (λ e. form_of e.now) b.1)) }
 {
     if let Form::Atom { .. } = form {
-        let variable = form.symbol()?;
-        return Some(Bind {
-            variable,
-            value: None,
-        });
+        return Some((form.symbol()?, None));
     }
     let (variable, others) = form.operation()?;
     with_value(variable, others)
 }
 
 // A variable, and its value where it has one.
-fn with_value<'a>(variable: Symbol, others: &'a [Form]) -> Option<Bind<'a>>
+fn with_value<'a>(variable: Symbol, others: &'a [Form]) -> Option<(Symbol, Option<&'a Form>)>
     ensures { MatchOption result (with_value (variable.at.0, variable.number) (forms_of others.now) ≡ None)
         (λ b. with_value (variable.at.0, variable.number) (forms_of others.now)
-        ≡ Some ((b.variable.at.0, b.variable.number), option_map (λ e. form_of e.now) b.value)) }
+        ≡ Some ((b.0.at.0, b.0.number), option_map (λ e. form_of e.now) b.1)) }
 {
     let Some((value, rest)) = first_of(others) else {
-        return Some(Bind {
-            variable,
-            value: None,
-        });
+        return Some((variable, None));
     };
     match first_of(rest) {
         Some(_) => None,
-        None => Some(Bind {
-            variable,
-            value: Some(value),
-        }),
+        None => Some((variable, Some(value))),
     }
 }
 

@@ -6,7 +6,7 @@ ghost use Rattle.ql_forms.specs.View.{form_of, forms_of};
 ghost use Rattle.ql_expand.specs.ExpandFault.{misshapen, variable_faults, function_faults, is_marked, parameter_faults, parameters_faults, form_faults, forms_faults, bind_faults, binds_faults, clause_faults, clauses_faults, source_faults};
 ghost use Rattle.ql_expand.specs.Expands.{binders_in};
 ghost use Rattle.ql_expand.specs.Operator.{operator_of};
-ghost use Rattle.ql_expand.specs.Parts.{split_of};
+ghost use Rattle.ql_expand.specs.Parts.{split_in};
 ghost use Rattle.ql_expand.specs.Searching.{Past, top_faults, split_faults, symbols_faults};
 
 use crate::level::{DEEPEST, level_below};
@@ -70,26 +70,16 @@ impl<'a> Search<'a> {
     fn variable(&mut self, symbol: Symbol)
         ensures { Past self.old self.new (variable_faults symbol.at.0 symbol.number) }
     {
-        let is_constant = matches!(operator_of(symbol.number), Operator::Constant);
-        find_if(
-            &mut self.first,
-            is_constant,
-            FaultKind::ReservedName,
-            symbol.at,
-        );
+        let wrong = matches!(operator_of(symbol.number), Operator::Constant);
+        find_if(&mut self.first, wrong, FaultKind::ReservedName, symbol.at);
     }
 
     // The name of a function.
     fn function(&mut self, symbol: Symbol)
         ensures { Past self.old self.new (function_faults symbol.at.0 symbol.number) }
     {
-        let is_call = matches!(operator_of(symbol.number), Operator::Call);
-        find_if(
-            &mut self.first,
-            !is_call,
-            FaultKind::ReservedName,
-            symbol.at,
-        );
+        let wrong = !matches!(operator_of(symbol.number), Operator::Call);
+        find_if(&mut self.first, wrong, FaultKind::ReservedName, symbol.at);
     }
 
     fn parameter(&mut self, symbol: Symbol)
@@ -163,11 +153,14 @@ impl<'a> Search<'a> {
 
     #[cycle(search)]
     #[tactic(auto, using(ql_base::specs::Refusal::first_appended))]
-    fn parts(&mut self, level: u128, at: Offset, parts: Parts)
-        ensures { Past self.old self.new (split_faults self.old.names.now level at.0 (split_of parts.entry)) }
+    fn parts(&mut self, level: u128, at: Offset, parts: Option<Parts>)
+        ensures { Past self.old self.new (split_faults self.old.names.now level at.0 (split_in parts.entry)) }
     {
+        let Some(parts) = parts else {
+            self.bad_shape(at);
+            return;
+        };
         match parts {
-            Parts::Misshapen => self.bad_shape(at),
             Parts::Datum(_) => {}
             Parts::Forms(forms) => self.forms(level, forms),
             Parts::Assignment { variable, value } => {
@@ -218,9 +211,9 @@ impl<'a> Search<'a> {
         ensures { Past self.old self.new (bind_faults self.old.names.now level (form_of bind.now)) }
     {
         match bind_of(bind) {
-            Some(bound) if level <= DEEPEST => {
-                self.variable(bound.variable);
-                if let Some(value) = bound.value {
+            Some((variable, value)) if level <= DEEPEST => {
+                self.variable(variable);
+                if let Some(value) = value {
                     self.form(false, level + 1, value);
                 }
             }

@@ -14,7 +14,7 @@ ghost use Rattle.ql_expand.specs.View.{core_of, cores_of, function_of};
 ghost use Rattle.ql_expand.specs.declared.operator.Operator.TheVariants.{Defun, Defvar};
 
 use crate::assemble::Maker;
-use crate::build::{body, boxed, expanded, parameters};
+use crate::build::{self, boxed, expanded, parameters};
 use crate::core_form::{Core, Function, Node};
 use crate::laws::expanded_numbers;
 use crate::operator::{Operator, Reading, operator_of};
@@ -102,16 +102,11 @@ impl<'a> Tops<'a> {
         requires { IsFineSplit (definition_by (forms_of parts.now)) }
         ensures { (o w : ℕ) → operator_of w ≡ Defun → OnOk result (Adds (applied at.0 o w (forms_of parts.now)) self.old self.new) }
     {
-        let Parts::Definition {
-            name,
-            params,
-            body: forms,
-        } = read(Reading::Definition, parts)
-        else {
+        let Some(Parts::Definition { name, params, body }) = read(Reading::Definition, parts) else {
             unreachable!()
         };
         let params = parameters(alloc, params)?;
-        let body = body(Maker { alloc, at }, forms)?;
+        let body = build::body(Maker { alloc, at }, body)?;
         self.functions.push(Function {
             name: name.number,
             at,
@@ -126,7 +121,7 @@ impl<'a> Tops<'a> {
         requires { IsFineSplit (assignment_by (forms_of parts.now)) }
         ensures { (o w : ℕ) → operator_of w ≡ Defvar → OnOk result (Adds (applied at.0 o w (forms_of parts.now)) self.old self.new) }
     {
-        let Parts::Assignment { variable, value } = read(Reading::Global, parts) else {
+        let Some(Parts::Assignment { variable, value }) = read(Reading::Global, parts) else {
             unreachable!()
         };
         let value = boxed(alloc, value)?;

@@ -3,7 +3,7 @@
 ghost use Rattle.std.specs.Prelude.{◌≡◌, ◌++◌, ◌+◌, ◌<◌, ◌≤◌, OnOk, OnErr, IsOk, reverse, [], false, vec_len, vec_capacity};
 ghost use Rattle.ql_world.specs.Event.{turns, entries, entry_of};
 ghost use Rattle.ql_journal.specs.Schedule.{to_come};
-ghost use Rattle.ql_journal.specs.Growing.{pushed, turn_in, Joins, Fits, HasTurn, IsTold};
+ghost use Rattle.ql_journal.specs.Growing.{pushed, turn_in, Joins, Fits};
 
 use crate::turns::Turns;
 use ql_world::event::{Event, Head};
@@ -46,9 +46,7 @@ impl Journal {
 
     /// Adds an event. Turns of one process are joined. An `Err` leaves the journal as it was.
     pub fn push(&mut self, event: Event) -> Result<(), AllocError>
-        requires some { HasTurn event }
         requires small { Fits event (reverse self.old.journal.events) }
-        requires text { IsTold self.old.journal.head event }
         ensures head { self.new.journal.head ≡ self.old.journal.head }
         ensures events { OnOk result (reverse self.new.journal.events ≡ pushed event (reverse self.old.journal.events)) }
         ensures entries { OnOk result (entries self.new.journal.events ≡ entries self.old.journal.events ++ entry_of event) }

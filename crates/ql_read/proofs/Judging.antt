@@ -1,5 +1,5 @@
 -- Each text is refused or spells forms.
-use Rattle.std.proofs.Common.{◌≡◌, ℕ, zero, suc, ◌+◌, ◌<◌, ◌≤◌, List, [], ◌∷◌, ◌++◌, length, take, Option, Some, None, refl, sym, ap, ◌∙◌, subst, arith, ⊎_elim}
+use Rattle.std.proofs.Common.{◌≡◌, ℕ, zero, suc, ◌+◌, ◌<◌, ◌≤◌, List, [], ◌∷◌, ◌++◌, length, take, Option, Some, None, refl, sym, ap, ◌∙◌, subst, arith, append_assoc, ⊎_elim}
 use Rattle.std.proofs.lemmas.Bool.{cases_lt}
 use Rattle.ql_forms.specs.Spelled.{Forms}
 use Rattle.ql_forms.specs.Spells.{Spells}
@@ -17,16 +17,12 @@ take_rest zero b = (b, refl)
 take_rest (suc n) [] = ([], refl)
 take_rest (suc n) (x ∷ b) = let (r, e) = take_rest n b in (r, ap (λ y. x ∷ y) e)
 
-same_append : (a b c : List ℕ) → (a ++ b) ++ c ≡ a ++ (b ++ c)
-same_append [] b c = refl
-same_append (x ∷ a) b c = ap (λ y. x ∷ y) (same_append a b c)
-
 -- a front of what can go on can
 pub front_can : (n : ℕ) (b : List ℕ) → CanGoOn b → CanGoOn (take n b)
-front_can n b (c, fs, h) = let (r, e) = take_rest n b in (r ++ c, fs, subst (λ x. Spells x fs) (ap (λ x. x ++ c) (sym e) ∙ same_append (take n b) r c) h)
+front_can n b (c, fs, h) = let (r, e) = take_rest n b in (r ++ c, fs, subst (λ x. Spells x fs) (ap (λ x. x ++ c) (sym e) ∙ append_assoc (take n b) r c) h)
 
-none_in_good : (b : List ℕ) → fault_of (scan start b) ≡ None → NoneBelow b
-none_in_good b h = λ n lt f. f.none_goes_on (front_can (n + 1) b (can_go_on b h))
+pub none_in : (b : List ℕ) → fault_of (scan start b) ≡ None → NoneBelow b
+none_in b h = λ n lt f. f.none_goes_on (front_can (n + 1) b (can_go_on b h))
 
 -- the least fault is one
 pub none_before : (b : List ℕ) (m : ℕ) → FaultsAt b m → limit ≤ m → NoneBelow b
@@ -47,10 +43,10 @@ judge_scan b (bad at kind) e = ⊎_elim
     (λ (lt : at < limit). refused (number_of kind) at (by_byte lt (text_fault b at kind e)))
     (λ (le : limit ≤ at). judge_length b (let f = text_fault b at kind e in none_before b at f.least le))
     (cases_lt at limit)
-judge_scan b (between o k) e = judge_length b (none_in_good b (rw e refl))
-judge_scan b (in_comment o k) e = judge_length b (none_in_good b (rw e refl))
-judge_scan b (in_atom o at v k) e = judge_length b (none_in_good b (rw e refl))
-judge_scan b (after_dot o k) e = judge_length b (none_in_good b (rw e refl))
+judge_scan b (between o k) e = judge_length b (none_in b (rw e refl))
+judge_scan b (in_comment o k) e = judge_length b (none_in b (rw e refl))
+judge_scan b (in_atom o at v k) e = judge_length b (none_in b (rw e refl))
+judge_scan b (after_dot o k) e = judge_length b (none_in b (rw e refl))
 
 pub judge : (b : List ℕ) → Verdict b
 judge b = judge_scan b (scan start b) refl

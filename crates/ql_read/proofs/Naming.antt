@@ -1,5 +1,6 @@
 -- Names and their numbers, in a table that grows.
 use Rattle.std.proofs.Common.{◌≡◌, ℕ, zero, suc, ◌+◌, Bool, true, false, List, [], ◌∷◌, ◌++◌, length, slice_get, Option, Some, None, ◌⊎◌, inl, inr, ⊎_elim, refl, sym, ap, ◌∙◌, subst, arith, append_assoc}
+use Rattle.std.proofs.lemmas.List.{append-nil}
 use Rattle.std.specs.Prelude.{if◌then◌else◌, option_map, is_some, codes, slice_index_or}
 use Rattle.std.specs.Str.{bytes_eq}
 use Rattle.std.proofs.lemmas.Slice.Eq.{bytes_eq-Decides}
@@ -28,17 +29,13 @@ pub names_append : (ns : List (List ℕ)) (xs ys : List (List ℕ)) → with_nam
 names_append ns [] ys = refl
 names_append ns (x ∷ xs) ys = names_append (with_name ns x) xs ys
 
-pub append_none : (ns : List (List ℕ)) → ns ++ [] ≡ ns
-append_none [] = refl
-append_none (x ∷ ns) = ap (λ v. x ∷ v) (append_none ns)
-
 -- names stay where they are
 name_grows : (ns : List (List ℕ)) (x : List ℕ) (b : Bool) → is_some (place_of ns x) ≡ b → (e : List (List ℕ)) × (with_name ns x ≡ ns ++ e)
-name_grows ns x true h = ([], rw h (sym (append_none ns)))
+name_grows ns x true h = ([], rw h (sym (append-nil ns)))
 name_grows ns x false h = (x ∷ [], rw h refl)
 
 grows : (ns xs : List (List ℕ)) → (e : List (List ℕ)) × (with_names ns xs ≡ ns ++ e)
-grows ns [] = ([], sym (append_none ns))
+grows ns [] = ([], sym (append-nil ns))
 grows ns (x ∷ xs) =
     let (e, h) = name_grows ns x (is_some (place_of ns x)) refl in
     let (f, i) = grows (with_name ns x) xs in

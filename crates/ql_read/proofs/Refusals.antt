@@ -1,5 +1,6 @@
 -- A text has at most one fault, and what a reader's state says of it.
 use Rattle.std.proofs.Common.{◌≡◌, ℕ, zero, suc, ◌+◌, ◌<◌, ◌≤◌, Bool, true, false, if◌then◌else◌, List, [], ◌∷◌, ◌++◌, length, take, Some, None, refl, sym, ap, ◌∙◌, subst, arith, append_assoc, length-append, ⊎_elim, inl, inr}
+use Rattle.std.proofs.lemmas.List.{append-nil}
 use Rattle.std.proofs.lemmas.Bool.{cases_lt}
 use Rattle.ql_forms.specs.Bytes.{Class, blank, letter, digit, plus, minus, opening, closing, mark, semicolon, dot, other, class}
 use Rattle.ql_forms.specs.Spelled.{Forms}
@@ -15,7 +16,7 @@ use Rattle.ql_read.proofs.Complete.{run, complete}
 use Rattle.ql_read.proofs.Sound.{sound}
 use Rattle.ql_read.proofs.GoesOn.{scan_append, stays_bad, can_go_on, one_reading}
 use Rattle.ql_read.proofs.FaultKinds.{text_fault}
-use Rattle.ql_read.proofs.Judging.{front_can}
+use Rattle.ql_read.proofs.Judging.{front_can, none_in}
 
 -- the least fault is one
 not_before : (b : List ℕ) (m n : ℕ) → FaultsAt b m → FaultsAt b n → m < n → Prim.⊥
@@ -83,11 +84,7 @@ one_fault b k l m n f g = one_fault_at f g refl
 -- what has a fault spells nothing
 fault_spells_at : {b : List ℕ} {k n : ℕ} → TextFault b k n → (c : List ℕ) → b ≡ c → (fs : Forms) → Spells c fs → length c ≤ limit → Prim.⊥
 fault_spells_at (by_byte {b = b} {n = n} lt f) c e fs h le =
-    f.least.none_goes_on (front_can (n + 1) b ([], fs, subst (λ x. Spells x fs) (sym e ∙ sym (append_none b)) h))
-  where
-    append_none : (w : List ℕ) → w ++ [] ≡ w
-    append_none [] = refl
-    append_none (x ∷ w) = ap (λ v. x ∷ v) (append_none w)
+    f.least.none_goes_on (front_can (n + 1) b ([], fs, subst (λ x. Spells x fs) (sym e ∙ sym (append-nil b)) h))
 fault_spells_at (by_length none long) c e fs h le = absurd (omega (arith, long, le, ap length e))
 fault_spells_at (by_end none short not) c e fs h le = not fs (subst (λ x. Spells x fs) (sym e) h)
 
@@ -172,25 +169,14 @@ pub refused_front : (b c : List ℕ) (k n : ℕ) → IsRefused b k n → k < unf
 refused_front b c k n f lt =
     let there : n < length (b ++ c) = let w : n < length b = f.within lt in omega (arith, length-append {A = ℕ} b c, w) in
     refused_by (b ++ c) k n f.kinds (omega (arith, there)) (λ h. there) (λ h. absurd (omega (arith, h, lt)))
-    (λ rest may. subst (λ t. TextFault t k n) (sym (append_all b c rest)) (f.fault (c ++ rest) (λ e. absurd (omega (arith, e, lt)))))
-  where
-    append_all : (x y z : List ℕ) → (x ++ y) ++ z ≡ x ++ (y ++ z)
-    append_all [] y z = refl
-    append_all (a ∷ x) y z = ap (λ v. a ∷ v) (append_all x y z)
-
-none_in : (b : List ℕ) → fault_of (scan start b) ≡ None → NoneBelow b
-none_in b h = λ n lt f. f.none_goes_on (front_can (n + 1) b (can_go_on b h))
+    (λ rest may. subst (λ t. TextFault t k n) (sym (append_assoc b c rest)) (f.fault (c ++ rest) (λ e. absurd (omega (arith, e, lt)))))
 
 -- reading stands inside a form at the end
 pub end_refused : (b : List ℕ) → fault_of (scan start b) ≡ None → length b ≤ limit → finish (scan start b) ≡ None → IsRefused b unfinished (length b)
 end_refused b h le e =
     let no : (fs : Forms) → Spells b fs → Prim.⊥ = λ fs i. let c : run start b ≡ Some fs = complete b fs i in absurd (cc) in
     refused_by b unfinished (length b) (omega arith, omega arith) (omega arith) (λ lt. absurd (omega (arith, lt))) (λ k. refl)
-    (λ rest may. subst (λ t. TextFault t unfinished (length b)) (sym (ap (λ r. b ++ r) (may refl) ∙ append_none b)) (by_end (none_in b h) le no))
-  where
-    append_none : (w : List ℕ) → w ++ [] ≡ w
-    append_none [] = refl
-    append_none (x ∷ w) = ap (λ v. x ∷ v) (append_none w)
+    (λ rest may. subst (λ t. TextFault t unfinished (length b)) (sym (ap (λ r. b ++ r) (may refl) ∙ append-nil b)) (by_end (none_in b h) le no))
 
 -- reading ended with these forms
 pub read_all : (b : List ℕ) (fs : Forms) (names : List (List ℕ)) (forms : numbered.Forms) → length b ≤ limit → finish (scan start b) ≡ Some fs → Numbered fs names forms → IsRead b forms names

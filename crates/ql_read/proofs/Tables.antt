@@ -1,5 +1,6 @@
 -- The names of a text's symbols, byte by byte.
 use Rattle.std.proofs.Common.{◌≡◌, ℕ, ◌+◌, ◌==◌, Bool, true, false, List, [], ◌∷◌, ◌++◌, Option, Some, None, refl, sym, ap, ◌∙◌, append_assoc}
+use Rattle.std.proofs.lemmas.List.{append-nil}
 use Rattle.std.specs.Prelude.{if◌then◌else◌, ltb, codes}
 use Rattle.std.specs.Str.{bytes_eq}
 use Rattle.ql_base.specs.Names.{reserved, with_name, with_names}
@@ -9,7 +10,7 @@ use Rattle.ql_read.specs.Numbering.{GoesOn, stack_names, state_names, pending, e
 use Rattle.ql_base.specs.declared.refusal.FaultKind.{FaultKind}
 use Rattle.ql_base.specs.declared.refusal.FaultKind.TheVariants.{BadByte, StrayClose, BadDot, TooDeep}
 use Rattle.ql_read.specs.Scan.{Token, first, next, token_atom, token_form, token_kind, Stack, top, in_list, in_tail, past_tail, in_quote, depth, onto, push, State, between, in_comment, in_atom, after_dot, bad, close, put_dot, form_in, step_between, atom_or_bad, step_atom, step_dot, step, scan, whole, finish, fault_of}
-use Rattle.ql_read.proofs.Naming.{same_text, names_append, append_none, goes_on_before, goes_on_same, word_known}
+use Rattle.ql_read.proofs.Naming.{same_text, names_append, goes_on_before, goes_on_same, word_known}
 
 -- every table begins with the reserved words
 pub begins : (k : Stack) → GoesOn reserved (stack_names k)
@@ -151,11 +152,11 @@ symbols_onto none gs = refl
 symbols_onto (more f fs) gs =
     let before = symbols_in (onto fs none) in
     symbols_onto fs (more f gs) ∙ sym (append_assoc before (symbols_of f) (symbols_in gs))
-    ∙ ap (λ z. (before ++ z) ++ symbols_in gs) (sym (append_none (symbols_of f))) ∙ ap (λ z. z ++ symbols_in gs) (sym (symbols_onto fs (more f none)))
+    ∙ ap (λ z. (before ++ z) ++ symbols_in gs) (sym (append-nil (symbols_of f))) ∙ ap (λ z. z ++ symbols_in gs) (sym (symbols_onto fs (more f none)))
 
 names_onto : (ns : List (List ℕ)) (f : Form) (fs : Forms) → with_names ns (symbols_in (onto (more f fs) none)) ≡ with_names (with_names ns (symbols_in (onto fs none))) (symbols_of f)
 names_onto ns f fs =
-    ap (with_names ns) (symbols_onto fs (more f none) ∙ ap (λ z. symbols_in (onto fs none) ++ z) (append_none (symbols_of f)))
+    ap (with_names ns) (symbols_onto fs (more f none) ∙ ap (λ z. symbols_in (onto fs none) ++ z) (append-nil (symbols_of f)))
     ∙ names_append ns (symbols_in (onto fs none)) (symbols_of f)
 
 -- a form that ends adds its symbols
@@ -167,12 +168,12 @@ names_push f (past_tail at fs g k) h = absurd h
 names_push f (in_quote at k) h =
     names_push (quote_form at f) k h
     ∙ ap (λ z. with_names z ((symbols_of f ++ []) ++ [])) (word_known (stack_names k) (codes "quote") 2 refl (begins k))
-    ∙ ap (with_names (stack_names k)) (append_none (symbols_of f ++ []) ∙ append_none (symbols_of f))
+    ∙ ap (with_names (stack_names k)) (append-nil (symbols_of f ++ []) ∙ append-nil (symbols_of f))
 
 -- what a list's end makes has the symbols of its items
 proper_names : (ns : List (List ℕ)) (at : ℕ) (gs : Forms) → GoesOn reserved ns → with_names ns (symbols_of (list_form at gs plain)) ≡ with_names ns (symbols_in gs)
 proper_names ns at none g = word_known ns (codes "nil") 0 refl g
-proper_names ns at (more f gs) g = ap (with_names ns) (append_none (symbols_in (more f gs)))
+proper_names ns at (more f gs) g = ap (with_names ns) (append-nil (symbols_in (more f gs)))
 
 symbols_joined : (fs gs : Forms) → symbols_in (joined fs gs) ≡ symbols_in fs ++ symbols_in gs
 symbols_joined none gs = refl
@@ -183,11 +184,11 @@ symbol_tail : (ns : List (List ℕ)) (at : ℕ) (gs : Forms) (w : List ℕ) (b :
 symbol_tail ns at gs w true e g =
     let all = with_names ns (symbols_in gs) in
     let goes : GoesOn reserved all = goes_on_before reserved ns g.more all g.is (record { more = symbols_in gs; is = refl }) in
-    ap (with_names ns) (append_none (symbols_in gs)) ∙ sym (word_known all (codes "nil") 0 refl goes) ∙ ap (with_name all) (sym (same_text w (codes "nil") e))
+    ap (with_names ns) (append-nil (symbols_in gs)) ∙ sym (word_known all (codes "nil") 0 refl goes) ∙ ap (with_name all) (sym (same_text w (codes "nil") e))
 symbol_tail ns at gs w false e g = names_append ns (symbols_in gs) (w ∷ [])
 
 tail_names : (ns : List (List ℕ)) (at : ℕ) (gs : Forms) (f : Form) → GoesOn reserved ns → with_names ns (symbols_of (with_last at gs f)) ≡ with_names (with_names ns (symbols_in gs)) (symbols_of f)
-tail_names ns at gs (atom o (integer z)) g = ap (with_names ns) (append_none (symbols_in gs))
+tail_names ns at gs (atom o (integer z)) g = ap (with_names ns) (append-nil (symbols_in gs))
 tail_names ns at gs (atom o (symbol w)) g = symbol_tail ns at gs w (bytes_eq w (codes "nil")) refl g
 tail_names ns at gs (list o hs t) g =
     ap (with_names ns) (ap (λ x. x ++ letters_in_tail t) (symbols_joined gs hs) ∙ append_assoc (symbols_in gs) (symbols_in hs) (letters_in_tail t))

@@ -1,5 +1,6 @@
 -- What a token read byte by byte is as a whole.
 use Rattle.std.proofs.Common.{◌≡◌, ◌⊎◌, ℕ, ◌+◌, ◌-◌, ◌*◌, ◌<◌, ◌≤◌, ◌==◌, Bool, true, false, List, [], ◌∷◌, ◌++◌, length, Some, None, refl, sym, ap, ◌∙◌, subst, arith, length-append, append_assoc, ⊎_elim, inl, inr}
+use Rattle.std.proofs.lemmas.List.{append-nil}
 use Rattle.std.specs.Prelude.{ltb, leb, if◌then◌else◌}
 use Rattle.std.proofs.lemmas.Bool.{lt-ltb, le-leb, ltb-true, leb-true}
 use Rattle.ql_forms.specs.Bytes.{Class, blank, letter, digit, plus, minus, opening, closing, mark, semicolon, dot, other, class, is_digit}
@@ -18,12 +19,8 @@ if_some : (c : Bool) (x y : Token) → (if c then Some x else None) ≡ Some y �
 if_some true x y e = (refl, cc)
 if_some false x y e = absurd (cc)
 
-append_none : (w : List ℕ) → w ++ [] ≡ w
-append_none [] = refl
-append_none (b ∷ w) = ap (λ v. b ∷ v) (append_none w)
-
 symbol_goes : (t w : List ℕ) (v : Token) → length w ≤ 64 → Goes (of_symbol w) t v → (of_symbol (w ++ t) ≡ v) × (length (w ++ t) ≤ 64)
-symbol_goes [] w v len e = (rw (append_none w) e, rw (append_none w) len)
+symbol_goes [] w v len e = (rw (append-nil w) e, rw (append-nil w) len)
 symbol_goes (b ∷ t) w v len (x, e, g) =
     let (room, same) = if_some (ltb (length w) 64) (of_symbol (w ++ b ∷ [])) x e in
     let small : length w < 64 = ltb-true _ _ room in
@@ -32,7 +29,7 @@ symbol_goes (b ∷ t) w v len (x, e, g) =
     (subst (λ y. of_symbol y ≡ v) q f, subst (λ y. length y ≤ 64) q l)
 
 symbol_can : (t w : List ℕ) → length (w ++ t) ≤ 64 → Goes (of_symbol w) t (of_symbol (w ++ t))
-symbol_can [] w len = ap of_symbol (sym (append_none w))
+symbol_can [] w len = ap of_symbol (sym (append-nil w))
 symbol_can (b ∷ t) w len =
     let q : (w ++ b ∷ []) ++ t ≡ w ++ b ∷ t = append_assoc w (b ∷ []) t in
     let room : ltb (length w) 64 ≡ true = lt-ltb _ _ (omega (arith, length-append {A = ℕ}, len)) in

@@ -1,14 +1,14 @@
 -- Stacks and forms that grow at their ends.
 use Rattle.std.proofs.Common.{zero, suc, slice_get, Some, ◌==◌, arith, length, ◌<◌, ◌≤◌, ◌+◌, true, false, ◌≡◌, ℕ, List, [], ◌∷◌, ◌++◌, ◌-◌, take, refl, sym, ap, ◌∙◌}
-use Rattle.std.specs.Prelude.{ltb, if◌then◌else◌}
+use Rattle.std.specs.Prelude.{ltb}
 use Rattle.std.specs.Global.{Vec}
 use Rattle.std.proofs.lemmas.Option.{slice_get_within}
 use Rattle.std.proofs.lemmas.Bool.{lt-ltb, le-ltb, ne_eqb}
 use Rattle.ql_forms.specs.Spelled.{Form, list_form, quote_form, Forms, none, more, plain, with_tail}
 use Rattle.ql_forms.specs.View.{spelling_of, spellings_of}
 use Rattle.ql_forms.specs.declared.form.Form.{Form as Value}
-use Rattle.ql_base.specs.declared.refusal.FaultKind.TheVariants.{BadDot, TooDeep, StrayClose}
-use Rattle.ql_read.specs.Scan.{Stack, top, in_list, in_tail, past_tail, in_quote, depth, onto, push, State, between, after_dot, bad, close, put_dot, form_in}
+use Rattle.ql_base.specs.declared.refusal.FaultKind.TheVariants.{BadDot, TooDeep}
+use Rattle.ql_read.specs.Scan.{Stack, top, in_list, in_tail, past_tail, in_quote, depth, onto, push, State, between, after_dot, bad, close, put_dot}
 use Rattle.ql_read.specs.View.{backward, frame_on, frames_on, stack_of, deeper_at, is_past}
 use Rattle.ql_read.specs.declared.nesting.Frame.{Frame}
 use Rattle.ql_read.specs.declared.nesting.Frame.TheVariants.{InList, InTail, PastTail, InQuote}
@@ -86,18 +86,12 @@ module _ (names : List (List ℕ)) where
   pub close_bad : (o : ℕ) (s : State) (fs gs : List Frame) (f : Frame) (xs : List Value) → fs ≡ gs ++ f ∷ [] → close o (frame_on names (stack_of names gs xs) f) ≡ s → s ≡ close o (stack_of names fs xs)
   close_bad o s fs gs f xs e h = sym (ap (close o) (on_last fs gs f xs e) ∙ h)
 
-  pub close_top : (o : ℕ) (fs : List Frame) (xs : List Value) → fs ≡ [] → bad o StrayClose ≡ close o (stack_of names fs xs)
-  close_top o fs xs e = rw e refl
-
   backward_more : (f : Form) (fs : Forms) (xs : List Value) → (g : Form) × (gs : Forms) × (backward names (more f fs) xs ≡ more g gs)
   backward_more f fs [] = (f, fs, refl)
   backward_more f fs (x ∷ xs) = backward_more (spelling_of names x) (more f fs) xs
 
   pub dot_bad : (o : ℕ) (fs gs : List Frame) (f : Frame) (xs : List Value) → fs ≡ gs ++ f ∷ [] → put_dot o (frame_on names (stack_of names gs xs) f) ≡ bad o BadDot → bad o BadDot ≡ put_dot o (stack_of names fs xs)
   dot_bad o fs gs f xs e h = sym (ap (put_dot o) (on_last fs gs f xs e) ∙ h)
-
-  pub dot_top : (o : ℕ) (fs : List Frame) (xs : List Value) → fs ≡ [] → bad o BadDot ≡ put_dot o (stack_of names fs xs)
-  dot_top o fs xs e = rw e refl
 
   pub dot_empty : (o at n : ℕ) (k : Stack) (ys : List Value) → n ≡ length ys → true ≡ (n == 0) → put_dot o (in_list at (backward names none ys) k) ≡ bad o BadDot
   dot_empty o at n k [] e h = refl
@@ -129,16 +123,3 @@ module _ (names : List (List ℕ)) where
   past_last fs gs xs f g e same all =
       let within : length gs - 1 < length gs = slice_get_within gs (length gs - 1) g (sym e) in
       sym (ap (λ z. is_past (stack_of names z xs)) (sym all) ∙ past_on gs (top (backward names none xs)) g (length gs - 1) (sym e) (omega (arith, within)) ∙ ap (λ x. is_past (frame_on names (top none) x)) same)
-
-form_in_is : (o : ℕ) (k : Stack) (s : State) → form_in o k s ≡ (if is_past k then bad o BadDot else s)
-form_in_is o (top gs) s = refl
-form_in_is o (in_list at gs k) s = refl
-form_in_is o (in_tail at gs k) s = refl
-form_in_is o (past_tail at gs f k) s = refl
-form_in_is o (in_quote at k) s = refl
-
-pub past_bad : (o : ℕ) (k : Stack) (s : State) → true ≡ is_past k → bad o BadDot ≡ form_in o k s
-past_bad o k s e = sym (form_in_is o k s ∙ ap (λ b. if b then bad o BadDot else s) (sym e))
-
-pub open_form : (o : ℕ) (k : Stack) (s : State) → false ≡ is_past k → s ≡ form_in o k s
-open_form o k s e = sym (form_in_is o k s ∙ ap (λ b. if b then bad o BadDot else s) (sym e))

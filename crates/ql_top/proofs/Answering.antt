@@ -5,19 +5,22 @@ use Rattle.ql_forms.specs.Form.{Forms}
 use Rattle.ql_forms.specs.View.{forms_of}
 use Rattle.ql_forms.specs.declared.text.Text.{Text}
 use Rattle.ql_expand.specs.Core.{Program}
+use Rattle.ql_world.specs.declared.event.Stop.{Stop}
+use Rattle.ql_host.specs.Host.{Told}
 use Rattle.ql_read.specs.TextFault.{MayFollow, IsRead}
-use Rattle.ql_top.specs.declared.world.Stop as stop
-use Rattle.ql_top.specs.Acts.{HasTexts, Gives, AnswersSome}
+use Rattle.ql_top.specs.Acts.{told_in, stop_in, output_in, lines_in, HasTexts, Gives, AnswersSome}
 use Rattle.ql_top.specs.Reading.{Takes, IsAtEnd, ReadsAll, IsFaulty, StopsReading}
-use Rattle.ql_top.specs.Top.{IsText, Unfit, Refusal, of_text, of_forms, IsRefused, IsSource, Writes, of_run, of_show, of_check, of_list, Written, IsDone, Answers, AnswersTaken, IsSilent}
-use Rattle.ql_top.specs.Unbuilt.{first_unbuilt}
+use Rattle.ql_top.specs.Top.{IsText, Unfit, Refusal, of_text, of_forms, IsRefused, IsSource, Writes, of_run, of_show, of_check, of_list, Written, IsDone, EndsBy, Answers, AnswersTaken, IsSilent, Tells}
 use Rattle.ql_top.specs.declared.top.Texts.{Texts}
 use Rattle.ql_top.specs.declared.words.Command.{Command}
 use Rattle.ql_top.specs.declared.words.Command.TheVariants as commands
 use Rattle.ql_top.specs.declared.words.Command.TheVariants.{Run, Show, Check}
+use Rattle.ql_top.specs.declared.status.Ended.{Ended}
 use Rattle.ql_top.specs.declared.status.Status.{Status}
 use Rattle.ql_top.specs.declared.status.Status.TheVariants.{Done, Refused, Words, Fault, Budget, Deadlock, Limit, NoMemory, ReadFault, WriteFault}
-use Rattle.ql_top.proofs.Built.{program_built}
+
+abbrev ended_by : Status → Option Told → Ended
+ended_by status told = record { status = status; told = told }
 
 -- the bytes that may follow those that were taken
 abbrev MayBeLeft : Option (List ℕ) → List ℕ → Type 0
@@ -28,9 +31,9 @@ none_at_end None rest e (inl h) = absurd (cc)
 none_at_end (Some x) rest e (inl h) = let same : x ≡ rest = cc in sym same ∙ e
 none_at_end left rest e (inr h) = h
 
-pub refused_answer : (command : Command) (left left' o o' j j' : Option (List ℕ)) (kind at : ℕ) → IsFaulty kind at left left'
-    → AnswersSome command (Refused kind at) left left' o o' j j'
-refused_answer command left left' o o' j j' kind at f = record {
+refused_answer : (command : Command) (told : Option Told) (left left' o o' j j' : Option (List ℕ)) (kind at : ℕ) → IsFaulty kind at left left'
+    → AnswersSome command (ended_by (Refused kind at) told) left left' o o' j j'
+refused_answer command told left left' o o' j j' kind at f = record {
   taken = f.taken;
   takes = f.takes;
   answers = λ rest h.
@@ -49,71 +52,67 @@ refused_answer command left left' o o' j j' kind at f = record {
 }
 
 -- reading stopped early
-pub stopped_answer : (command : Command) (status : Status) (left left' o o' j j' : Option (List ℕ)) → StopsReading status left left'
-    → AnswersSome command status left left' o o' j j'
-stopped_answer command (Refused kind at) left left' o o' j j' h = refused_answer command left left' o o' j j' kind at h
-stopped_answer command NoMemory left left' o o' j j' h = record { taken = h.0; takes = h.1; answers = λ rest e. tt }
-stopped_answer command ReadFault left left' o o' j j' h = record {
+stopped_by : (command : Command) (status : Status) (told : Option Told) (left left' o o' j j' : Option (List ℕ)) → StopsReading status left left'
+    → AnswersSome command (ended_by status told) left left' o o' j j'
+stopped_by command (Refused kind at) told left left' o o' j j' h = refused_answer command told left left' o o' j j' kind at h
+stopped_by command NoMemory told left left' o o' j j' h = record { taken = h.0; takes = h.1; answers = λ rest e. tt }
+stopped_by command ReadFault told left left' o o' j j' h = record {
   taken = h.taken;
   takes = h.takes;
   answers = λ rest e. record { taken = h.taken; takes = refl; no_fault = h.no_fault };
 }
-stopped_answer command Done left left' o o' j j' h = absurd h
-stopped_answer command Words left left' o o' j j' h = absurd h
-stopped_answer command (Fault kind p at) left left' o o' j j' h = absurd h
-stopped_answer command Budget left left' o o' j j' h = absurd h
-stopped_answer command Deadlock left left' o o' j j' h = absurd h
-stopped_answer command (Limit kind) left left' o o' j j' h = absurd h
-stopped_answer command WriteFault left left' o o' j j' h = absurd h
+stopped_by command Done told left left' o o' j j' h = absurd h
+stopped_by command Words told left left' o o' j j' h = absurd h
+stopped_by command (Fault kind p at) told left left' o o' j j' h = absurd h
+stopped_by command Budget told left left' o o' j j' h = absurd h
+stopped_by command Deadlock told left left' o o' j j' h = absurd h
+stopped_by command (Limit kind) told left left' o o' j j' h = absurd h
+stopped_by command WriteFault told left left' o o' j j' h = absurd h
+
+pub stopped_answer : (command : Command) (ended : Ended) (status : Status) (left left' o o' j j' : Option (List ℕ)) → ended.status ≡ status
+    → StopsReading status left left' → AnswersSome command ended left left' o o' j j'
+stopped_answer command ended status left left' o o' j j' e h =
+    stopped_by command ended.status ended.told left left' o o' j j' (subst (λ s. StopsReading s left left') (sym e) h)
 
 -- the answer for all bytes, where nothing is left
-for_all : (command : Command) (status : Status) (text : Text) (left left' o o' j j' : Option (List ℕ)) (r : ReadsAll text left left')
-    → Answers command status r.taken (Some []) o o' j j' → AnswersSome command status left left' o o' j j'
-for_all command status text left left' o o' j j' r a = record {
+for_all : (command : Command) (ended : Ended) (text : Text) (left left' o o' j j' : Option (List ℕ)) (r : ReadsAll text left left')
+    → Answers command ended r.taken (Some []) o o' j j' → AnswersSome command ended left left' o o' j j'
+for_all command ended text left left' o o' j j' r a = record {
   taken = r.taken;
   takes = r.takes;
   answers = λ rest h. rw (none_at_end left' rest r.at_end h, append-nil) a;
 }
 
-is_text : (b : List ℕ) (forms : Forms) (names : List (List ℕ)) → IsRead b forms names → IsText b names forms
+pub is_text : (b : List ℕ) (forms : Forms) (names : List (List ℕ)) → IsRead b forms names → IsText b names forms
 is_text b forms names r = record { spelling = r.spelling; spells = r.spells; numbered = r.numbered; no_fault = r.no_fault }
 
--- what is written is of a program that can be run
-built : (command : Command) (names : List (List ℕ)) (forms : Forms) (p : Program) (stop : stop.Stop) (output lines : List ℕ)
-    → Writes command names forms p stop output lines → command ≡ Run → first_unbuilt p ≡ None
-built Run names forms p stop output lines (of_run {core = core} e told) is_run = program_built p core e
-built Show names forms p stop output lines of_show is_run = absurd (cc)
-built Check names forms p stop output lines of_check is_run = absurd (cc)
-built commands.List names forms p stop output lines of_list is_run = absurd (cc)
+done_by : (status : Status) (command : Command) (ended : Ended) (b : List ℕ) (left o o' j j' : Option (List ℕ)) → (IsSilent status → Prim.⊥)
+    → IsDone command ended b left o o' j j' → EndsBy status command ended b left o o' j j'
+done_by Done command ended b left o o' j j' loud h = h
+done_by (Refused kind at) command ended b left o o' j j' loud h = absurd (loud tt)
+done_by Words command ended b left o o' j j' loud h = absurd (loud tt)
+done_by (Fault kind p at) command ended b left o o' j j' loud h = h
+done_by Budget command ended b left o o' j j' loud h = h
+done_by Deadlock command ended b left o o' j j' loud h = h
+done_by (Limit kind) command ended b left o o' j j' loud h = h
+done_by NoMemory command ended b left o o' j j' loud h = absurd (loud tt)
+done_by ReadFault command ended b left o o' j j' loud h = absurd (loud tt)
+done_by WriteFault command ended b left o o' j j' loud h = h
 
-done_answer : (command : Command) (status : Status) (b : List ℕ) (left o o' j j' : Option (List ℕ)) → (IsSilent status → Prim.⊥)
-    → IsDone command status b left o o' j j' → Answers command status b left o o' j j'
-done_answer command Done b left o o' j j' loud h = h
-done_answer command (Refused kind at) b left o o' j j' loud h = absurd (loud tt)
-done_answer command Words b left o o' j j' loud h = absurd (loud tt)
-done_answer command (Fault kind p at) b left o o' j j' loud h = h
-done_answer command Budget b left o o' j j' loud h = h
-done_answer command Deadlock b left o o' j j' loud h = h
-done_answer command (Limit kind) b left o o' j j' loud h = h
-done_answer command NoMemory b left o o' j j' loud h = absurd (loud tt)
-done_answer command ReadFault b left o o' j j' loud h = absurd (loud tt)
-done_answer command WriteFault b left o o' j j' loud h = h
-
-module _ (one_refusal : (command : Command) (b : List ℕ) (k n kind at : ℕ) → Refusal command b k n → Refusal command b kind at → (k ≡ kind) × (n ≡ at))
-    (not_refused : (command : Command) (b : List ℕ) (p : Program) → IsSource b p → (command ≡ Run → first_unbuilt p ≡ None)
-    → (kind at : ℕ) → Refusal command b kind at → Prim.⊥)
+module _ (one_refusal : (b : List ℕ) (k n kind at : ℕ) → Refusal b k n → Refusal b kind at → (k ≡ kind) × (n ≡ at))
+    (not_refused : (b : List ℕ) (p : Program) → IsSource b p → (kind at : ℕ) → Refusal b kind at → Prim.⊥)
     (command : Command) (text : Text) (left left' o o' j j' : Option (List ℕ)) (r : ReadsAll text left left') where
   text_is : IsText r.taken text.names (forms_of text.forms)
   text_is = is_text r.taken (forms_of text.forms) text.names r.is_read
 
   -- all was read, and the forms are refused
-  unfit_answer : (kind at : ℕ) → 9 ≤ kind → Unfit command text.names (forms_of text.forms) kind at
-      → AnswersSome command (Refused kind at) left left' o o' j j'
-  unfit_answer kind at high u =
-      let refusal : Refusal command r.taken kind at = of_forms text_is u in
-      for_all command (Refused kind at) text left left' o o' j j' r (record {
+  unfit_answer : (told : Option Told) (kind at : ℕ) → 9 ≤ kind → Unfit text.names (forms_of text.forms) kind at
+      → AnswersSome command (ended_by (Refused kind at) told) left left' o o' j j'
+  unfit_answer told kind at high u =
+      let refusal : Refusal r.taken kind at = of_forms text_is u in
+      for_all command (ended_by (Refused kind at) told) text left left' o o' j j' r (record {
         refusal = refusal;
-        only = λ k n f. one_refusal command r.taken k n kind at f refusal;
+        only = λ k n f. one_refusal r.taken k n kind at f refusal;
         taken = r.taken;
         rest = [];
         parts = sym (append-nil r.taken);
@@ -122,36 +121,55 @@ module _ (one_refusal : (command : Command) (b : List ℕ) (k n kind at : ℕ) �
         whole = λ _. refl;
       })
 
-  -- all was read, and there are no texts
-  pub stopped_text : ((names : List (List ℕ)) (forms : Forms) (kind at : ℕ) → Unfit command names forms kind at → 9 ≤ kind)
-      → (status : Status) → Gives command (Err status) text.names (forms_of text.forms) → AnswersSome command status left left' o o' j j'
-  stopped_text beyond (Refused kind at) u = unfit_answer kind at (beyond text.names (forms_of text.forms) kind at u) u
-  stopped_text beyond NoMemory h = for_all command NoMemory text left left' o o' j j' r tt
-  stopped_text beyond Done h = absurd h
-  stopped_text beyond Words h = absurd h
-  stopped_text beyond (Fault kind p at) h = absurd h
-  stopped_text beyond Budget h = absurd h
-  stopped_text beyond Deadlock h = absurd h
-  stopped_text beyond (Limit kind) h = absurd h
-  stopped_text beyond ReadFault h = absurd h
-  stopped_text beyond WriteFault h = absurd h
+  module _ (beyond : (names : List (List ℕ)) (forms : Forms) (kind at : ℕ) → Unfit names forms kind at → 9 ≤ kind) where
+    stopped_with : (status : Status) (told : Option Told) → Gives command (Err status) text.names (forms_of text.forms)
+        → AnswersSome command (ended_by status told) left left' o o' j j'
+    stopped_with (Refused kind at) told u = unfit_answer told kind at (beyond text.names (forms_of text.forms) kind at u) u
+    stopped_with NoMemory told h = for_all command (ended_by NoMemory told) text left left' o o' j j' r tt
+    stopped_with Done told h = absurd h
+    stopped_with Words told h = absurd h
+    stopped_with (Fault kind p at) told h = absurd h
+    stopped_with Budget told h = absurd h
+    stopped_with Deadlock told h = absurd h
+    stopped_with (Limit kind) told h = absurd h
+    stopped_with ReadFault told h = absurd h
+    stopped_with WriteFault told h = absurd h
+
+    -- all was read, and there are no texts
+    pub stopped_text : (ended : Ended) (status : Status) → ended.status ≡ status → Gives command (Err status) text.names (forms_of text.forms)
+        → AnswersSome command ended left left' o o' j j'
+    stopped_text ended status e h =
+        stopped_with ended.status ended.told (subst (λ s. Gives command (Err s) text.names (forms_of text.forms)) (sym e) h)
 
   -- all was read, and the texts of the command are written
-  pub written_answer : (texts : Texts) (status : Status) → HasTexts command texts text.names (forms_of text.forms) → (IsSilent status → Prim.⊥)
-      → Written status texts.stop texts.output.items texts.journal.items o o' j j' → AnswersSome command status left left' o o' j j'
-  written_answer texts status h loud w =
+  pub written_answer : (texts : Texts) (ended : Ended) → HasTexts command texts text.names (forms_of text.forms) → ended.told ≡ told_in texts
+      → (IsSilent ended.status → Prim.⊥) → Written ended.status (stop_in texts) (output_in texts) (lines_in texts) o o' j j'
+      → AnswersSome command ended left left' o o' j j'
+  written_answer texts ended h t loud w =
       let source : IsSource r.taken h.program = record { names = text.names; forms = forms_of text.forms; is_text = text_is; makes = h.makes } in
-      for_all command status text left left' o o' j j' r (done_answer command status r.taken (Some []) o o' j j' loud (record {
+      for_all command ended text left left' o o' j j' r (done_by ended.status command ended r.taken (Some []) o o' j j' loud (record {
         program = h.program;
         source = source;
-        accepted = not_refused command r.taken h.program source (built command _ _ h.program _ _ _ h.writes);
+        accepted = not_refused r.taken h.program source;
         none_left = refl;
-        stop = texts.stop;
-        output = texts.output.items;
-        lines = texts.journal.items;
-        writes = h.writes;
+        stop = stop_in texts;
+        output = output_in texts;
+        lines = lines_in texts;
+        writes = subst (λ o. Writes command text.names (forms_of text.forms) h.program o (stop_in texts) (output_in texts) (lines_in texts)) (sym t) h.writes;
         written = w;
       }))
+
+-- of a run a host has told
+pub tells_texts : (command : Command) (texts : Texts) (ended : Ended) (names : List (List ℕ)) (forms : Forms) → HasTexts command texts names forms
+    → ended.told ≡ told_in texts → (IsSilent ended.status → Prim.⊥) → Tells (Some command) ended.status ended.told
+tells_texts command texts ended names forms h t loud = written_by command (told_in texts) (stop_in texts) (output_in texts) (lines_in texts) h.writes t
+  where
+    written_by : (command : Command) (told : Option Told) (stop : Stop) (output lines : List ℕ) → Writes command names forms h.program told stop output lines
+        → ended.told ≡ told → Tells (Some command) ended.status ended.told
+    written_by Run told stop output lines (of_run r) e = (λ none. let bad : None ≡ Some r.run = sym none ∙ e ∙ r.is_told in absurd cc, λ silent. absurd (loud silent))
+    written_by Show told stop output lines of_show e = e
+    written_by Check told stop output lines of_check e = e
+    written_by commands.List told stop output lines of_list e = e
 
 -- for a source that tells its bytes
 left_over : (left left' : Option (List ℕ)) (b taken : List ℕ) → Takes taken left left' → left ≡ Some b → (rest : List ℕ) × (left' ≡ Some rest) × (b ≡ taken ++ rest)
@@ -159,34 +177,33 @@ left_over None left' b taken t e = absurd (cc)
 left_over (Some x) None b taken t e = absurd t
 left_over (Some x) (Some y) b taken t e = let same : x ≡ b = cc in (y, refl, sym same ∙ t)
 
-pub told_answer : (command : Command) (status : Status) (b : List ℕ) (left left' o o' j j' : Option (List ℕ)) → left ≡ Some b
-    → AnswersSome command status left left' o o' j j' → Answers command status b left' o o' j j'
-told_answer command status b left left' o o' j j' e a =
+pub told_answer : (command : Command) (ended : Ended) (b : List ℕ) (left left' o o' j j' : Option (List ℕ)) → left ≡ Some b
+    → AnswersSome command ended left left' o o' j j' → Answers command ended b left' o o' j j'
+told_answer command ended b left left' o o' j j' e a =
     let more = left_over left left' b a.taken a.takes e in
-    subst (λ l. Answers command status b l o o' j j') (sym more.1)
-    (subst (λ t. Answers command status t (Some more.0) o o' j j') (sym more.2) (a.answers more.0 (inl more.1)))
+    subst (λ l. Answers command ended b l o o' j j') (sym more.1)
+    (subst (λ t. Answers command ended t (Some more.0) o o' j j') (sym more.2) (a.answers more.0 (inl more.1)))
 
-pub taken_answer : (command : Command) (status : Status) (left left' o o' j j' : Option (List ℕ)) → AnswersSome command status left left' o o' j j'
-    → AnswersTaken command status left left' o o' j j'
-taken_answer command status left left' o o' j j' a = record { taken = a.taken; takes = a.takes; answers = rw append-nil at (a.answers [] (inr refl)) }
+pub taken_answer : (command : Command) (ended : Ended) (left left' o o' j j' : Option (List ℕ)) → AnswersSome command ended left left' o o' j j'
+    → AnswersTaken command ended left left' o o' j j'
+taken_answer command ended left left' o o' j j' a = record { taken = a.taken; takes = a.takes; answers = rw append-nil at (a.answers [] (inr refl)) }
 
 -- what must be refused is refused, unless memory or the source fails
 abbrev RefusedOrFailed : Status → (kind at : ℕ) → Type 0
 RefusedOrFailed status kind at = (status ≡ Refused kind at) ⊎ ((status ≡ NoMemory) ⊎ (status ≡ ReadFault))
 
-same_refusal : (command : Command) (b : List ℕ) (left : Option (List ℕ)) (k n kind at : ℕ) → IsRefused command b left k n → Refusal command b kind at
-    → Refused k n ≡ Refused kind at
-same_refusal command b left k n kind at r f = let o = r.only kind at f in ap (λ x. Refused x n) (sym o.0) ∙ ap (λ x. Refused kind x) (sym o.1)
+same_refusal : (b : List ℕ) (left : Option (List ℕ)) (k n kind at : ℕ) → IsRefused b left k n → Refusal b kind at → Refused k n ≡ Refused kind at
+same_refusal b left k n kind at r f = let o = r.only kind at f in ap (λ x. Refused x n) (sym o.0) ∙ ap (λ x. Refused kind x) (sym o.1)
 
-pub must_refuse : (command : Command) (status : Status) (b : List ℕ) (left o o' j j' : Option (List ℕ)) (kind at : ℕ)
-    → Answers command status b left o o' j j' → Refusal command b kind at → RefusedOrFailed status kind at
-must_refuse command (Refused k n) b left o o' j j' kind at h f = inl (same_refusal command b left k n kind at h f)
-must_refuse command NoMemory b left o o' j j' kind at h f = inr (inl refl)
-must_refuse command ReadFault b left o o' j j' kind at h f = inr (inr refl)
-must_refuse command Words b left o o' j j' kind at h f = absurd h
-must_refuse command Done b left o o' j j' kind at h f = absurd (h.accepted kind at f)
-must_refuse command (Fault k p n) b left o o' j j' kind at h f = absurd (h.accepted kind at f)
-must_refuse command Budget b left o o' j j' kind at h f = absurd (h.accepted kind at f)
-must_refuse command Deadlock b left o o' j j' kind at h f = absurd (h.accepted kind at f)
-must_refuse command (Limit k) b left o o' j j' kind at h f = absurd (h.accepted kind at f)
-must_refuse command WriteFault b left o o' j j' kind at h f = absurd (h.accepted kind at f)
+pub must_refuse : (status : Status) (command : Command) (ended : Ended) (b : List ℕ) (left o o' j j' : Option (List ℕ)) (kind at : ℕ)
+    → EndsBy status command ended b left o o' j j' → Refusal b kind at → RefusedOrFailed status kind at
+must_refuse (Refused k n) command ended b left o o' j j' kind at h f = inl (same_refusal b left k n kind at h f)
+must_refuse NoMemory command ended b left o o' j j' kind at h f = inr (inl refl)
+must_refuse ReadFault command ended b left o o' j j' kind at h f = inr (inr refl)
+must_refuse Words command ended b left o o' j j' kind at h f = absurd h
+must_refuse Done command ended b left o o' j j' kind at h f = absurd (h.accepted kind at f)
+must_refuse (Fault k p n) command ended b left o o' j j' kind at h f = absurd (h.accepted kind at f)
+must_refuse Budget command ended b left o o' j j' kind at h f = absurd (h.accepted kind at f)
+must_refuse Deadlock command ended b left o o' j j' kind at h f = absurd (h.accepted kind at f)
+must_refuse (Limit k) command ended b left o o' j j' kind at h f = absurd (h.accepted kind at f)
+must_refuse WriteFault command ended b left o o' j j' kind at h f = absurd (h.accepted kind at f)

@@ -1,95 +1,43 @@
--- What is told of the code of small programs, which forms can't be run yet, and the listing of a code, computed.
-use Rattle.std.proofs.Common.{◌≡◌, ℕ, List, [], ◌∷◌, ◌++◌, Some, None, refl}
+-- What is told of a small program and whose schedule it is, and the listing of a code, computed.
+use Rattle.std.proofs.Common.{◌≡◌, ℕ, true, false, List, [], ◌∷◌, ◌++◌, Some, None, refl}
 use Rattle.std.specs.Prelude.{pos, codes, replicate}
 use Rattle.std.specs.Fmt.{digits}
 use Rattle.ql_base.specs.Limits.{usual}
 use Rattle.ql_base.specs.Names.{reserved}
 use Rattle.ql_base.specs.Reserved.{number}
-use Rattle.ql_base.specs.declared.fault.RunFault.TheVariants.{Overflow}
 use Rattle.ql_base.specs.declared.reserved.Reserved.TheVariants.{Plus}
-use Rattle.ql_forms.specs.Form.{integer, nil, atom}
+use Rattle.ql_forms.specs.Form.{integer, atom}
 use Rattle.ql_expand.specs.Core as expanded
-use Rattle.ql_expand.specs.Core.{named, binder, core, variable, call, no_cores, and_core, primitive, conditional, function, Program, program}
+use Rattle.ql_expand.specs.Core.{named, binder, core, variable, call, no_cores, and_core, primitive, function, Program, program}
+use Rattle.ql_world.specs.Run.{head_of}
+use Rattle.ql_world.specs.declared.event.Event.TheVariants.{Turn, Exit, EndOk, Stopped}
+use Rattle.ql_world.specs.declared.event.Stop.TheVariants.{Done}
 use Rattle.ql_code.specs.Listing.{listing}
+use Rattle.ql_meaning.specs.Meaning.{program_told, program_planned}
 use Rattle.ql_compile.specs.Compile.{compiled}
-use Rattle.ql_top.specs.Runnable.{Core, constant, sum, print}
-use Rattle.ql_top.specs.Meaning.{program_told}
-use Rattle.ql_top.specs.World.{pid}
-use Rattle.ql_top.specs.declared.world.Event.TheVariants.{Turn, Exit, EndOk, Stopped}
-use Rattle.ql_top.specs.declared.world.Stop.TheVariants.{Done, Fault, Deadlock}
-use Rattle.ql_top.specs.Code.{instruction, code_of_program}
-use Rattle.ql_top.specs.Machine.{code_told}
-use Rattle.ql_top.specs.Unbuilt.{unbuilt_places, first_unbuilt}
-use Rattle.ql_top.specs.declared.code.Op.TheVariants.{Lit, Sum, Print, Drop, End}
 
 -- (print (+ 1 2))
-abbrev sum_printed : Core
-sum_printed = print 0 (sum 7 (constant 10 (pos 1)) (constant 12 (pos 2)))
+abbrev sum_printed : Program
+sum_printed =
+    program [] []
+    (and_core (core 0 (expanded.print (core 7 (primitive (number Plus) (and_core (core 10 (expanded.constant (atom 10 (integer (pos 1)))))
+    (and_core (core 12 (expanded.constant (atom 12 (integer (pos 2))))) no_cores)))))) no_cores)
 
-its_code : code_of_program (sum_printed ∷ [])
-    ≡ instruction (Lit (pos 1)) 10 ∷ (instruction (Lit (pos 2)) 12 ∷ (instruction Sum 7 ∷ (instruction Print 0 ∷ (instruction Drop 0 ∷ (instruction End 0 ∷ [])))))
-its_code = refl
-
-sum_is_told : code_told (code_of_program (sum_printed ∷ [])) usual (replicate 5 1) ≡ Some (record {
+sum_is_told : program_told reserved sum_printed usual (replicate 5 1) ≡ Some (record {
   output = codes "3\n";
-  journal = Turn (pid 1) 5 ∷ (Exit (pid 1) (record { 0 = 0 }) ∷ (EndOk (pid 1) ∷ (Stopped Done ∷ [])));
+  journal = record { head = Some (head_of usual); events = Turn 1 5 ∷ (Exit 1 0 ∷ (EndOk 1 None ∷ (Stopped Done ∷ []))) };
   stop = Done;
 })
 unfolding digits
 sum_is_told = refl
 
-too_few : code_told (code_of_program (sum_printed ∷ [])) usual (replicate 4 1) ≡ None
+-- one worker takes its only process
+sum_is_planned : program_planned reserved sum_printed usual (replicate 5 1) ≡ true
 unfolding digits
-too_few = refl
+sum_is_planned = refl
 
-too_many : code_told (code_of_program (sum_printed ∷ [])) usual (replicate 6 1) ≡ None
-unfolding digits
-too_many = refl
-
-empty_is_told : code_told (code_of_program []) usual (replicate 1 1) ≡ program_told [] usual (replicate 1 1)
-empty_is_told = refl
-
--- two top forms: a drop takes no tick
-drops_are_silent : code_told (code_of_program (constant 0 (pos 1) ∷ (constant 2 (pos 2) ∷ []))) usual (replicate 3 1) ≡ Some (record {
-  output = [];
-  journal = Turn (pid 1) 3 ∷ (Exit (pid 1) (record { 0 = 0 }) ∷ (EndOk (pid 1) ∷ (Stopped Done ∷ [])));
-  stop = Done;
-})
-drops_are_silent = refl
-
--- (print (+ 9223372036854775807 1))
-overflow_is_told : code_told (code_of_program (print 0 (sum 7 (constant 10 (pos 9223372036854775807)) (constant 30 (pos 1))) ∷ [])) usual (replicate 3 1)
-    ≡ Some (record { output = []; journal = Turn (pid 1) 3 ∷ (Stopped (Fault Overflow (pid 1) 7) ∷ []); stop = Fault Overflow (pid 1) 7 })
-overflow_is_told = refl
-
--- code that isn't sound
-rests_on_a_short_stack : code_told (instruction Drop 0 ∷ []) usual [] ≡ Some (record { output = []; journal = Stopped Deadlock ∷ []; stop = Deadlock })
-rests_on_a_short_stack = refl
-
-rests_outside : code_told (instruction (Lit (pos 1)) 0 ∷ []) usual (replicate 1 1)
-    ≡ Some (record { output = []; journal = Turn (pid 1) 1 ∷ (Stopped Deadlock ∷ []); stop = Deadlock })
-rests_outside = refl
-
--- what can't be run yet
-abbrev integer_at : ℕ → ℕ → expanded.Core
-integer_at at n = core at (expanded.constant (atom at (integer (pos n))))
-
-abbrev nil_at : ℕ → expanded.Core
-nil_at at = core at (expanded.constant (atom at nil))
-
--- (print (+ 1 2))
-all_can_run : first_unbuilt (program [] [] (and_core (core 0 (expanded.print (core 7 (primitive (number Plus) (and_core (integer_at 10 1)
-    (and_core (integer_at 12 2) no_cores)))))) no_cores)) ≡ None
-all_can_run = refl
-
--- (print (if 1 nil 3))
-inner_forms_count : unbuilt_places (program [] [] (and_core (core 0 (expanded.print (core 7 (conditional (integer_at 11 1) (nil_at 13) (integer_at 17 3))))) no_cores))
-    ≡ 7 ∷ (13 ∷ [])
-inner_forms_count = refl
-
--- (print nil)(defun f () nil)
-the_least_is_first : first_unbuilt (program (function 11 46 18 [] (nil_at 23) ∷ []) [] (and_core (core 0 (expanded.print (nil_at 7))) no_cores)) ≡ Some 7
-the_least_is_first = refl
+nobody_else_is_picked : program_planned reserved sum_printed usual (2 ∷ []) ≡ false
+nobody_else_is_picked = refl
 
 -- (defun twice (n) (+ n n)) (print (twice 3))
 abbrev twice : Program

@@ -2,13 +2,11 @@ mod Answering
 mod Examples
 mod Parts
 mod Pieces
-mod Schedules
-mod StepExamples
+mod Planned
+mod Printable
+mod Ran
+mod Refusals
 mod Stopping
 mod Telling
-pub mod Bisimulation
-pub mod Built
-pub mod Compiles
-pub mod Follows
-pub mod Refusals
-pub mod Runs
+pub mod Counted
+mod Working

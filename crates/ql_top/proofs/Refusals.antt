@@ -1,4 +1,4 @@
--- No bytes have two refusals by one command.
+-- No bytes have two refusals.
 use Rattle.std.proofs.Common.{◌≡◌, ◌<◌, ◌≤◌, ℕ, List, Option, Some, None, length, refl, sym, ap, ◌∙◌, subst, arith}
 use Rattle.std.specs.Prelude.{option_map, slice_get}
 use Rattle.std.proofs.lemmas.Option.{slice_get_within}
@@ -16,12 +16,8 @@ use Rattle.ql_scope.specs.Scope.{InScope, scope_fault}
 use Rattle.ql_code.specs.Code.{Instruction, Code}
 use Rattle.ql_compile.specs.Compile.{compiled}
 use Rattle.ql_compile.specs.Laws.{IsTooLong}
-use Rattle.ql_top.specs.Runnable.{Core, program_of}
 use Rattle.ql_read.specs.TextFault.{TextFault}
-use Rattle.ql_top.specs.Top.{IsText, Makes, Unfit, by_forms, by_scope, by_code, by_kind, Refusal, of_text, of_forms, IsSource, IsProgram}
-use Rattle.ql_top.specs.Unbuilt.{first_unbuilt}
-use Rattle.ql_top.specs.declared.words.Command.{Command}
-use Rattle.ql_top.specs.declared.words.Command.TheVariants.{Run}
+use Rattle.ql_top.specs.Top.{IsText, Makes, Unfit, by_forms, by_scope, by_code, Refusal, of_text, of_forms, IsSource}
 
 -- the answers to one question
 one_place : (o : Option (ℕ × ℕ)) (at kind n k : ℕ) → o ≡ Some (at, kind) → o ≡ Some (n, k) → (kind ≡ k) × (at ≡ n)
@@ -54,12 +50,11 @@ not_too_long code at short h = too_many code.instructions (slice_get code.instru
 -- What is wrong with forms has a kind beyond those of a text.
 pub kind_beyond : ((names : List (List ℕ)) (forms : Forms) (at kind : ℕ) → expand_fault names forms ≡ Some (at, kind) → (9 ≤ kind) × (kind ≤ 11))
     → ((p : Program) (at kind : ℕ) → scope_fault p ≡ Some (at, kind) → (12 ≤ kind) × (kind ≤ 18))
-    → (command : Command) (names : List (List ℕ)) (forms : Forms) (kind at : ℕ) → Unfit command names forms kind at → 9 ≤ kind
-kind_beyond form_kinds name_kinds command names forms kind at (by_forms e) = (form_kinds names forms at kind e).0
-kind_beyond form_kinds name_kinds command names forms kind at (by_scope p none x e) =
+    → (names : List (List ℕ)) (forms : Forms) (kind at : ℕ) → Unfit names forms kind at → 9 ≤ kind
+kind_beyond form_kinds name_kinds names forms kind at (by_forms e) = (form_kinds names forms at kind e).0
+kind_beyond form_kinds name_kinds names forms kind at (by_scope p none x e) =
     let beyond : 12 ≤ kind = (name_kinds p at kind e).0 in omega (arith, beyond)
-kind_beyond form_kinds name_kinds command names forms kind at (by_code p none x s e) = omega arith
-kind_beyond form_kinds name_kinds command names forms kind at (by_kind m e) = omega arith
+kind_beyond form_kinds name_kinds names forms kind at (by_code p none x s e) = omega arith
 
 module _ (one_reading : (b : List ℕ) (f g : spelled.Forms) → Spells b f → Spells b g → f ≡ g)
     (distinct : (texts : List (List ℕ)) → AreDistinct (with_names reserved texts))
@@ -76,69 +71,52 @@ module _ (one_reading : (b : List ℕ) (f g : spelled.Forms) → Spells b f → 
       (subst (λ k. Numbered j.spelling k g) (same_names b m n g f j i) j.numbered))
 
   -- what is wrong with the forms of a text is wrong with those of any other reading
-  same_unfit : (command : Command) (b : List ℕ) (n m : List (List ℕ)) (f g : Forms) (kind at : ℕ) → IsText b n f → IsText b m g
-      → Unfit command m g kind at → Unfit command n f kind at
-  same_unfit command b n m f g kind at i j u =
-      subst (λ k. Unfit command k f kind at) (same_names b m n g f j i) (subst (λ h. Unfit command m h kind at) (same_forms b m n g f j i) u)
+  same_unfit : (b : List ℕ) (n m : List (List ℕ)) (f g : Forms) (kind at : ℕ) → IsText b n f → IsText b m g
+      → Unfit m g kind at → Unfit n f kind at
+  same_unfit b n m f g kind at i j u =
+      subst (λ k. Unfit k f kind at) (same_names b m n g f j i) (subst (λ h. Unfit m h kind at) (same_forms b m n g f j i) u)
 
-  one_unfit : (command : Command) (names : List (List ℕ)) (forms : Forms) (k n kind at : ℕ) → Unfit command names forms k n → Unfit command names forms kind at
+  one_unfit : (names : List (List ℕ)) (forms : Forms) (k n kind at : ℕ) → Unfit names forms k n → Unfit names forms kind at
       → (k ≡ kind) × (n ≡ at)
-  one_unfit command names forms k n kind at (by_forms e) (by_forms f) = one_place (expand_fault names forms) n k at kind e f
-  one_unfit command names forms k n kind at (by_forms e) (by_scope p none x f) = absurd (none_or_some _ _ none e)
-  one_unfit command names forms k n kind at (by_forms e) (by_code p none x s f) = absurd (none_or_some _ _ none e)
-  one_unfit command names forms k n kind at (by_forms e) (by_kind m f) = absurd (none_or_some _ _ m.no_fault e)
-  one_unfit command names forms k n kind at (by_scope p none x e) (by_forms f) = absurd (none_or_some _ _ none f)
-  one_unfit command names forms k n kind at (by_scope p none x e) (by_scope q clean y f) =
+  one_unfit names forms k n kind at (by_forms e) (by_forms f) = one_place (expand_fault names forms) n k at kind e f
+  one_unfit names forms k n kind at (by_forms e) (by_scope p none x f) = absurd (none_or_some _ _ none e)
+  one_unfit names forms k n kind at (by_forms e) (by_code p none x s f) = absurd (none_or_some _ _ none e)
+  one_unfit names forms k n kind at (by_scope p none x e) (by_forms f) = absurd (none_or_some _ _ none f)
+  one_unfit names forms k n kind at (by_scope p none x e) (by_scope q clean y f) =
       one_place (scope_fault p) n k at kind e (ap scope_fault (one_expansion forms p q x y) ∙ f)
-  one_unfit command names forms k n kind at (by_scope p none x e) (by_code q clean y s f) =
+  one_unfit names forms k n kind at (by_scope p none x e) (by_code q clean y s f) =
       absurd (none_or_some _ _ (no_scope_fault q s) (ap scope_fault (one_expansion forms q p y x) ∙ e))
-  one_unfit command names forms k n kind at (by_scope p none x e) (by_kind {program = q} m f) =
-      absurd (none_or_some _ _ (no_scope_fault q m.in_scope) (ap scope_fault (one_expansion forms q p m.expands x) ∙ e))
-  one_unfit command names forms k n kind at (by_code p none x s e) (by_forms f) = absurd (none_or_some _ _ none f)
-  one_unfit command names forms k n kind at (by_code p none x s e) (by_scope q clean y f) =
+  one_unfit names forms k n kind at (by_code p none x s e) (by_forms f) = absurd (none_or_some _ _ none f)
+  one_unfit names forms k n kind at (by_code p none x s e) (by_scope q clean y f) =
       absurd (none_or_some _ _ (no_scope_fault p s) (ap scope_fault (one_expansion forms p q x y) ∙ f))
-  one_unfit command names forms k n kind at (by_code p none x s e) (by_code q clean y t f) =
+  one_unfit names forms k n kind at (by_code p none x s e) (by_code q clean y t f) =
       (refl, one_offset (last_place (compiled p)) n at e (ap (λ r. last_place (compiled r)) (one_expansion forms p q x y) ∙ f))
-  one_unfit command names forms k n kind at (by_code p none x s e) (by_kind {program = q} m f) =
-      absurd (not_too_long (compiled q) n m.short (ap (λ r. last_place (compiled r)) (one_expansion forms q p m.expands x) ∙ e))
-  one_unfit command names forms k n kind at (by_kind m e) (by_forms f) = absurd (none_or_some _ _ m.no_fault f)
-  one_unfit command names forms k n kind at (by_kind {program = p} m e) (by_scope q clean y f) =
-      absurd (none_or_some _ _ (no_scope_fault p m.in_scope) (ap scope_fault (one_expansion forms p q m.expands y) ∙ f))
-  one_unfit command names forms k n kind at (by_kind {program = p} m e) (by_code q clean y s f) =
-      absurd (not_too_long (compiled p) at m.short (ap (λ r. last_place (compiled r)) (one_expansion forms p q m.expands y) ∙ f))
-  one_unfit command names forms k n kind at (by_kind {program = p} m e) (by_kind {program = q} o f) =
-      (refl, one_offset (first_unbuilt p) n at e (ap first_unbuilt (one_expansion forms p q m.expands o.expands) ∙ f))
 
   pub one_refusal : ((b : List ℕ) (k l m n : ℕ) → TextFault b k m → TextFault b l n → (k ≡ l) × (m ≡ n))
-      → (command : Command) (b : List ℕ) (k n kind at : ℕ) → Refusal command b k n → Refusal command b kind at → (k ≡ kind) × (n ≡ at)
-  one_refusal one_fault command b k n kind at (of_text f) (of_text g) = one_fault b k kind n at f g
-  one_refusal one_fault command b k n kind at (of_text f) (of_forms t u) = absurd (t.no_fault k n f)
-  one_refusal one_fault command b k n kind at (of_forms t u) (of_text g) = absurd (t.no_fault kind at g)
-  one_refusal one_fault command b k n kind at (of_forms {names = names} {forms = f} t u) (of_forms {names = others} {forms = g} i v) =
-      one_unfit command names f k n kind at u (same_unfit command b names others f g kind at t i v)
+      → (b : List ℕ) (k n kind at : ℕ) → Refusal b k n → Refusal b kind at → (k ≡ kind) × (n ≡ at)
+  one_refusal one_fault b k n kind at (of_text f) (of_text g) = one_fault b k kind n at f g
+  one_refusal one_fault b k n kind at (of_text f) (of_forms t u) = absurd (t.no_fault k n f)
+  one_refusal one_fault b k n kind at (of_forms t u) (of_text g) = absurd (t.no_fault kind at g)
+  one_refusal one_fault b k n kind at (of_forms {names = names} {forms = f} t u) (of_forms {names = others} {forms = g} i v) =
+      one_unfit names f k n kind at u (same_unfit b names others f g kind at t i v)
 
-  not_unfit : (command : Command) (names : List (List ℕ)) (forms : Forms) (p : Program) → Makes names forms p → (command ≡ Run → first_unbuilt p ≡ None)
-      → (kind at : ℕ) → Unfit command names forms kind at → Prim.⊥
-  not_unfit command names forms p m built kind at (by_forms e) = none_or_some _ _ m.no_fault e
-  not_unfit command names forms p m built kind at (by_scope q none x e) =
+  not_unfit : (names : List (List ℕ)) (forms : Forms) (p : Program) → Makes names forms p → (kind at : ℕ) → Unfit names forms kind at → Prim.⊥
+  not_unfit names forms p m kind at (by_forms e) = none_or_some _ _ m.no_fault e
+  not_unfit names forms p m kind at (by_scope q none x e) =
       none_or_some _ _ (no_scope_fault p m.in_scope) (ap scope_fault (one_expansion forms p q m.expands x) ∙ e)
-  not_unfit command names forms p m built kind at (by_code q none x s e) =
+  not_unfit names forms p m kind at (by_code q none x s e) =
       not_too_long (compiled p) at m.short (ap (λ r. last_place (compiled r)) (one_expansion forms p q m.expands x) ∙ e)
-  not_unfit command names forms p m built kind at (by_kind {program = q} o e) =
-      none_or_some _ _ (built refl) (ap first_unbuilt (one_expansion forms p q m.expands o.expands) ∙ e)
 
-  -- nothing refuses a program in scope, where it can be run
-  pub not_refused : (command : Command) (b : List ℕ) (p : Program) → IsSource b p → (command ≡ Run → first_unbuilt p ≡ None)
-      → (kind at : ℕ) → Refusal command b kind at → Prim.⊥
-  not_refused command b p s built kind at (of_text f) = s.is_text.no_fault kind at f
-  not_refused command b p s built kind at (of_forms {names = names} {forms = f} t u) =
-      not_unfit command s.names s.forms p s.makes built kind at (same_unfit command b s.names names s.forms f kind at s.is_text t u)
+  -- nothing refuses a program in scope
+  pub not_refused : (b : List ℕ) (p : Program) → IsSource b p → (kind at : ℕ) → Refusal b kind at → Prim.⊥
+  not_refused b p s kind at (of_text f) = s.is_text.no_fault kind at f
+  not_refused b p s kind at (of_forms {names = names} {forms = f} t u) =
+      not_unfit s.names s.forms p s.makes kind at (same_unfit b s.names names s.forms f kind at s.is_text t u)
 
-  same_source : (b : List ℕ) (p q : Program) → IsSource b p → IsSource b q → p ≡ q
+  pub same_source : (b : List ℕ) (p q : Program) → IsSource b p → IsSource b q → p ≡ q
   same_source b p q i j =
       one_expansion i.forms p q i.makes.expands
       (subst (λ f. ExpandsTo f q) (same_forms b j.names i.names j.forms i.forms j.is_text i.is_text) j.makes.expands)
 
-  pub same_program : (b : List ℕ) (p q : List Core) → IsProgram b p → IsProgram b q → p ≡ q
-  same_program b p q i j =
-      let both : Some p ≡ Some q = sym i.has_core ∙ ap program_of (same_source b i.program j.program i.is_source j.is_source) ∙ j.has_core in cc
+  pub same_source_names : (b : List ℕ) (p q : Program) (i : IsSource b p) (j : IsSource b q) → i.names ≡ j.names
+  same_source_names b p q i j = same_names b i.names j.names i.forms j.forms i.is_text j.is_text

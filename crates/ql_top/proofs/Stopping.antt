@@ -1,59 +1,62 @@
--- The status of a run is that of the stop of the program's one whole run.
-use Rattle.std.proofs.Common.{◌≡◌, ℕ, List, Option, Some, None, refl, sym, ap, ◌∙◌, subst, inl, inr}
+-- The status of a run is that of the stop of the program's one whole run by one worker.
+use Rattle.std.proofs.Common.{◌≡◌, ℕ, true, List, Option, Some, refl, sym, ap, ◌∙◌, subst, inl, inr}
 use Rattle.ql_base.specs.Limits.{usual}
 use Rattle.ql_base.specs.declared.limits.Limits.{Limits}
 use Rattle.ql_forms.specs.Form.{Forms}
 use Rattle.ql_expand.specs.Core.{Program}
-use Rattle.ql_top.specs.Runnable.{Core, program_of}
-use Rattle.ql_top.specs.Meaning.{program_told}
-use Rattle.ql_top.specs.Run.{Story}
-use Rattle.ql_top.specs.World.{turns}
-use Rattle.ql_top.specs.declared.world.Stop as stop
+use Rattle.ql_world.specs.Event.{turns}
+use Rattle.ql_world.specs.Run.{Story}
+use Rattle.ql_world.specs.declared.event.Stop as stop
+use Rattle.ql_host.specs.Host.{Told}
+use Rattle.ql_meaning.specs.Meaning.{program_told, program_planned}
 use Rattle.ql_top.specs.Status.{status_of}
-use Rattle.ql_top.specs.Top.{Refusal, IsSource, IsProgram, IsTold, Writes, of_run, IsDone, Answers, StopsOrFails}
-use Rattle.ql_top.specs.Unbuilt.{first_unbuilt}
-use Rattle.ql_top.specs.declared.words.Command.{Command}
+use Rattle.ql_top.specs.Top.{Refusal, IsSource, IsTold, Writes, of_run, Written, IsDone, EndsBy, StopsOrFails}
 use Rattle.ql_top.specs.declared.words.Command.TheVariants.{Run}
+use Rattle.ql_top.specs.declared.status.Ended.{Ended}
 use Rattle.ql_top.specs.declared.status.Status.{Status}
 use Rattle.ql_top.specs.declared.status.Status.TheVariants.{Done, Refused, Words, Fault, Budget, Deadlock, Limit, NoMemory, ReadFault, WriteFault}
-use Rattle.ql_top.proofs.Built.{program_built}
 
--- the core of a run's program, and what is told of it
-run_told : (names : List (List ℕ)) (forms : Forms) (p : Program) (stop : stop.Stop) (output lines : List ℕ) → Writes Run names forms p stop output lines
-    → (core : List Core) × (program_of p ≡ Some core) × IsTold (program_told core usual) stop output lines
-run_told names forms p stop output lines (of_run {core = core} e told) = (core, e, told)
+-- what is told of a run
+pub run_told : (names : List (List ℕ)) (forms : Forms) (p : Program) (told : Option Told) (stop : stop.Stop) (output lines : List ℕ)
+    → Writes Run names forms p told stop output lines → IsTold names p told stop output lines
+run_told names forms p told stop output lines (of_run is_told) = is_told
 
-module _ (one_program : (b : List ℕ) (p q : List Core) → IsProgram b p → IsProgram b q → p ≡ q)
-    (not_refused : (command : Command) (b : List ℕ) (p : Program) → IsSource b p → (command ≡ Run → first_unbuilt p ≡ None)
-    → (kind at : ℕ) → Refusal command b kind at → Prim.⊥)
-    (one_schedule : (program : List Core) (limits : Limits) (s t : List ℕ) (x y : Story) → program_told program limits s ≡ Some x
-    → program_told program limits t ≡ Some y → s ≡ t)
-    (b : List ℕ) (left o o' j j' : Option (List ℕ)) (core : List Core) (schedule : List ℕ) (story : Story) (i : IsProgram b core)
-    (e : program_told core usual schedule ≡ Some story) where
-  same_story : (s : List ℕ) (x : Story) → program_told core usual s ≡ Some x → x ≡ story
-  same_story s x f =
-      let both : Some x ≡ Some story = sym f ∙ ap (program_told core usual) (one_schedule core usual s schedule x story f e) ∙ e in cc
+module _ (one_program : (b : List ℕ) (p q : Program) → IsSource b p → IsSource b q → p ≡ q)
+    (same_names : (b : List ℕ) (p q : Program) (i : IsSource b p) (j : IsSource b q) → i.names ≡ j.names)
+    (not_refused : (b : List ℕ) (p : Program) → IsSource b p → (kind at : ℕ) → Refusal b kind at → Prim.⊥)
+    (one_schedule : (names : List (List ℕ)) (p : Program) (limits : Limits) (s t : List ℕ) (x y : Story) → program_told names p limits s ≡ Some x
+    → program_told names p limits t ≡ Some y → program_planned names p limits s ≡ true → program_planned names p limits t ≡ true → s ≡ t)
+    (b : List ℕ) (left o o' j j' : Option (List ℕ)) (p : Program) (schedule : List ℕ) (story : Story) (i : IsSource b p)
+    (e : program_told i.names p usual schedule ≡ Some story) (h : program_planned i.names p usual schedule ≡ true) (ended : Ended) where
+  same_story : (s : List ℕ) (x : Story) → program_told i.names p usual s ≡ Some x → program_planned i.names p usual s ≡ true → x ≡ story
+  same_story s x f g =
+      let both : Some x ≡ Some story = sym f ∙ ap (program_told i.names p usual) (one_schedule i.names p usual s schedule x story f e g h) ∙ e in cc
 
-  stop_told : (stop : stop.Stop) (output lines : List ℕ) → IsTold (program_told core usual) stop output lines → stop ≡ story.stop
-  stop_told stop output lines told = told.stop_is ∙ ap (λ s. s.stop) (same_story (turns told.story.journal) told.story told.is_told)
+  stop_told : (told : Option Told) (stop : stop.Stop) (output lines : List ℕ) → IsTold i.names p told stop output lines → stop ≡ story.stop
+  stop_told told stop output lines t =
+      t.stop_is ∙ ap (λ s. s.stop) (same_story (turns t.run.story.journal.events) t.run.story t.is_run.told t.is_run.planned)
 
-  run_stop : (status : Status) (h : IsDone Run status b left o o' j j') → h.stop ≡ story.stop
-  run_stop status h =
-      let told = run_told _ _ h.program h.stop h.output h.lines h.writes in
-      let same : told.0 ≡ core = one_program b told.0 core (record { program = h.program; is_source = h.source; has_core = told.1 }) i in
-      stop_told h.stop h.output h.lines (subst (λ c. IsTold (program_told c usual) h.stop h.output h.lines) same told.2)
+  run_stop : (d : IsDone Run ended b left o o' j j') → d.stop ≡ story.stop
+  run_stop d =
+      let t = run_told _ _ d.program ended.told d.stop d.output d.lines d.writes in
+      stop_told ended.told d.stop d.output d.lines
+      (subst (λ ns. IsTold ns p ended.told d.stop d.output d.lines) (same_names b d.program p d.source i)
+      (subst (λ q. IsTold d.source.names q ended.told d.stop d.output d.lines) (one_program b d.program p d.source i) t))
 
-  run_stops : (status : Status) (h : IsDone Run status b left o o' j j') → status ≡ status_of h.stop → StopsOrFails status story.stop
-  run_stops status h s = inl (s ∙ ap status_of (run_stop status h))
+  run_stops : (status : Status) (d : IsDone Run ended b left o o' j j') → status ≡ status_of d.stop → StopsOrFails status story.stop
+  run_stops status d s = inl (s ∙ ap status_of (run_stop d))
 
-  pub stops_as_told : (status : Status) → Answers Run status b left o o' j j' → StopsOrFails status story.stop
-  stops_as_told Done h = run_stops Done h h.written.0
-  stops_as_told (Refused kind at) h = absurd (not_refused Run b i.program i.is_source (λ r. program_built i.program core i.has_core) kind at h.refusal)
-  stops_as_told Words h = absurd h
-  stops_as_told (Fault kind p at) h = run_stops (Fault kind p at) h h.written.0
-  stops_as_told Budget h = run_stops Budget h h.written.0
-  stops_as_told Deadlock h = run_stops Deadlock h h.written.0
-  stops_as_told (Limit kind) h = run_stops (Limit kind) h h.written.0
-  stops_as_told NoMemory h = inr (inl refl)
-  stops_as_told ReadFault h = inr (inr (inl refl))
-  stops_as_told WriteFault h = inr (inr (inr refl))
+  written_by : (status : Status) → ended.status ≡ status → (d : IsDone Run ended b left o o' j j') → Written status d.stop d.output d.lines o o' j j'
+  written_by status s d = subst (λ x. Written x d.stop d.output d.lines o o' j j') s d.written
+
+  pub stops_as_told : (status : Status) → ended.status ≡ status → EndsBy status Run ended b left o o' j j' → StopsOrFails status story.stop
+  stops_as_told Done s d = run_stops Done d (written_by Done s d).0
+  stops_as_told (Refused kind at) s d = absurd (not_refused b p i kind at d.refusal)
+  stops_as_told Words s d = absurd d
+  stops_as_told (Fault kind q at) s d = run_stops (Fault kind q at) d (written_by (Fault kind q at) s d).0
+  stops_as_told Budget s d = run_stops Budget d (written_by Budget s d).0
+  stops_as_told Deadlock s d = run_stops Deadlock d (written_by Deadlock s d).0
+  stops_as_told (Limit kind) s d = run_stops (Limit kind) d (written_by (Limit kind) s d).0
+  stops_as_told NoMemory s d = inr (inl refl)
+  stops_as_told ReadFault s d = inr (inr (inl refl))
+  stops_as_told WriteFault s d = inr (inr (inr refl))

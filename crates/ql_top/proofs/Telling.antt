@@ -1,59 +1,87 @@
 -- The texts of a command.
-use Rattle.std.proofs.Common.{◌≡◌, ℕ, List, [], Some, refl, sym, ◌∙◌, subst}
+use Rattle.std.proofs.Common.{◌≡◌, ℕ, true, List, [], Some, None, refl, sym, ◌∙◌, subst, arith}
 use Rattle.ql_base.specs.Limits.{usual}
 use Rattle.ql_base.specs.declared.limits.Limits.{Limits}
 use Rattle.ql_forms.specs.Form.{Forms}
 use Rattle.ql_forms.specs.FormText.{forms_text}
 use Rattle.ql_forms.specs.Numbered.{spelled_forms}
 use Rattle.ql_expand.specs.Core.{Program}
+use Rattle.ql_expand.specs.Expands.{ExpandsTo}
+use Rattle.ql_scope.specs.Compilable.{is_compilable}
+use Rattle.ql_scope.specs.Scope.{InScope}
+use Rattle.ql_world.specs.Event.{turns}
+use Rattle.ql_world.specs.declared.event.Stop.TheVariants as stops
 use Rattle.ql_code.specs.Code.{Code}
 use Rattle.ql_code.specs.Listing.{listing}
+use Rattle.ql_code.specs.Machine.{code_told, code_planned}
+use Rattle.ql_host.specs.Host.{Told, IsInRange}
+use Rattle.ql_meaning.specs.Meaning.{program_told}
+use Rattle.ql_meaning.specs.Laws.{JournalsAreLegal, KilledOnlyCleanUp}
 use Rattle.ql_compile.specs.Compile.{compiled}
-use Rattle.ql_top.specs.Runnable.{Core, program_of}
-use Rattle.ql_top.specs.Meaning.{program_told}
-use Rattle.ql_top.specs.World.{turns}
-use Rattle.ql_top.specs.declared.world.Event.{Event}
-use Rattle.ql_top.specs.declared.world.Stop as stop
-use Rattle.ql_top.specs.declared.world.Stop.TheVariants as stops
-use Rattle.ql_top.specs.JournalText.{journal_text}
-use Rattle.ql_top.specs.Machine.{code_told}
-use Rattle.ql_top.specs.Top.{IsTold, Writes, of_run, of_show, of_check, of_list, approval}
-use Rattle.ql_top.specs.declared.code.Instruction.{Instruction}
+use Rattle.ql_compile.specs.Laws.{CodeFollows, CodeIsPlanned}
+use Rattle.ql_top.specs.Acts.{IsRunOf, HasRun, HasTexts}
+use Rattle.ql_top.specs.Run.{IsRun}
+use Rattle.ql_top.specs.Top.{Makes, IsTold, Writes, of_run, of_show, of_check, of_list, approval}
+use Rattle.ql_top.specs.declared.top.Texts.{Texts}
+use Rattle.ql_top.specs.declared.top.Texts.TheVariants.{Ran, Alone}
 use Rattle.ql_top.specs.declared.words.Command.TheVariants as commands
 use Rattle.ql_top.specs.declared.words.Command.TheVariants.{Run, Show, Check}
 
--- what was told under limits that are the usual ones, with the text of its journal
-pub tells_code : (code : List Instruction) (limits : Limits) (output : List ℕ) (journal : List Event) (stop : stop.Stop) (lines : List ℕ) → limits ≡ usual
-    → code_told code limits (turns journal) ≡ Some (record { output = output; journal = journal; stop = stop }) → lines ≡ journal_text journal
-    → IsTold (code_told code usual) stop output lines
-tells_code code limits output journal stop lines e t h = record {
-  story = record { output = output; journal = journal; stop = stop };
-  is_told = subst (λ l. code_told code l (turns journal) ≡ Some (record { output = output; journal = journal; stop = stop })) e t;
-  stop_is = refl;
-  output_is = refl;
-  lines_are = h;
-}
+module _ (compilable : (forms : Forms) (p : Program) → ExpandsTo forms p → InScope p → is_compilable p ≡ true)
+    (follows : (p : Program) → is_compilable p ≡ true → (names : List (List ℕ)) (limits : Limits) → CodeFollows names p limits)
+    (planned_as : (p : Program) → is_compilable p ≡ true → (names : List (List ℕ)) (limits : Limits) → CodeIsPlanned names p limits)
+    (legal : (names : List (List ℕ)) (p : Program) (limits : Limits) → JournalsAreLegal names p limits)
+    (cleans : (names : List (List ℕ)) (p : Program) (limits : Limits) → KilledOnlyCleanUp names p limits)
+    (names : List (List ℕ)) (forms : Forms) (p : Program) (makes : Makes names forms p) where
+  can_be_compiled : is_compilable p ≡ true
+  can_be_compiled = compilable forms p makes.expands makes.in_scope
 
--- what is told of the code is told of the program
-pub writes_run : (names : List (List ℕ)) (forms : Forms) (p : Program) (core : List Core) (code : List Instruction) (stop : stop.Stop) (output lines : List ℕ)
-    → program_of p ≡ Some core → ((limits : Limits) (schedule : List ℕ) → code_told code limits schedule ≡ program_told core limits schedule)
-    → IsTold (code_told code usual) stop output lines → Writes Run names forms p stop output lines
-writes_run names forms p core code stop output lines e same told = of_run {core = core} e (record {
-  story = told.story;
-  is_told = sym (same usual (turns told.story.journal)) ∙ told.is_told;
-  stop_is = told.stop_is;
-  output_is = told.output_is;
-  lines_are = told.lines_are;
-})
+  -- a run of a program's code is one of the program
+  is_run : (told : Told) → code_told names (compiled p) usual (turns told.story.journal.events) ≡ Some told.story
+      → code_planned names (compiled p) usual (turns told.story.journal.events) ≡ true → IsRun names p usual told.story
+  is_run told t h =
+      let schedule = turns told.story.journal.events in
+      let is_told : program_told names p usual schedule ≡ Some told.story = sym (follows p can_be_compiled names usual schedule) ∙ t in
+      record {
+        told = is_told;
+        planned = sym (planned_as p can_be_compiled names usual schedule) ∙ h;
+        legal = legal names p usual schedule told.story is_told;
+        cleans = λ before after n old new q parts reached at_place dies ticks. cleans names p usual before old new n q reached at_place dies ticks;
+      }
 
-pub writes_show : (names : List (List ℕ)) (forms : Forms) (p : Program) (stop : stop.Stop) (output text lines : List ℕ) → stop ≡ stops.Done → output ≡ text
-    → text ≡ forms_text (spelled_forms names forms) → lines ≡ [] → Writes Show names forms p stop output lines
-writes_show names forms p stop output text lines s o t l = rw (s, o, t, l) of_show
+  same_code : (code code' : Code) (ns ns' : List (List ℕ)) (l l' : Limits) (told : Told) → code ≡ code' → ns ≡ ns' → l ≡ l'
+      → code_told ns code l (turns told.story.journal.events) ≡ Some told.story → code_told ns' code' l' (turns told.story.journal.events) ≡ Some told.story
+  same_code code code' ns ns' l l' told c n m t = rw (c, n, m) at t
 
-pub writes_check : (names : List (List ℕ)) (forms : Forms) (p : Program) (stop : stop.Stop) (output text lines : List ℕ) → stop ≡ stops.Done → output ≡ text
-    → text ≡ approval → lines ≡ [] → Writes Check names forms p stop output lines
-writes_check names forms p stop output text lines s o t l = rw (s, o, t, l) of_check
+  run_told : (code : Code) (told : Told) (lines : List ℕ) → code ≡ compiled p → IsRunOf code names told lines
+      → IsTold names p (Some told) told.story.stop told.story.output lines
+  run_told code told lines c r = record {
+    run = told;
+    is_told = refl;
+    code_is = r.code_is ∙ c;
+    names_are = r.names_are;
+    limits_are = r.limits_are;
+    is_run = is_run told (same_code told.code (compiled p) told.names names told.limits usual told (r.code_is ∙ c) r.names_are r.limits_are r.is_told)
+        (subst (λ k. code_planned names k usual (turns told.story.journal.events) ≡ true) c r.planned);
+    stop_is = refl;
+    output_is = refl;
+    lines_are = r.lines_are;
+  }
 
-pub writes_list : (names : List (List ℕ)) (forms : Forms) (p : Program) (code : Code) (stop : stop.Stop) (output text lines : List ℕ) → stop ≡ stops.Done
-    → output ≡ text → text ≡ listing names code → code ≡ compiled p → lines ≡ [] → Writes commands.List names forms p stop output lines
-writes_list names forms p code stop output text lines s o t c l = rw (s, o, t, c, l) of_list
+  pub texts_of_run : (code : Code) (texts : Texts) → code ≡ compiled p → HasRun code names texts → HasTexts Run texts names forms
+  texts_of_run code (Ran told lines) c r = record { program = p; makes = makes; writes = of_run (run_told code told lines.items c r) }
+  texts_of_run code (Alone output) c r = absurd r
+
+pub usual_is_in_range : IsInRange usual
+usual_is_in_range = record { budget = omega arith; cells = omega arith; some_procs = omega arith; procs = omega arith; output = omega arith }
+
+pub writes_show : (names : List (List ℕ)) (forms : Forms) (p : Program) (output : List ℕ) → output ≡ forms_text (spelled_forms names forms)
+    → Writes Show names forms p None stops.Done output []
+writes_show names forms p output t = rw t of_show
+
+pub writes_check : (names : List (List ℕ)) (forms : Forms) (p : Program) (output : List ℕ) → output ≡ approval → Writes Check names forms p None stops.Done output []
+writes_check names forms p output t = rw t of_check
+
+pub writes_list : (names : List (List ℕ)) (forms : Forms) (p : Program) (code : Code) (output : List ℕ) → output ≡ listing names code → code ≡ compiled p
+    → Writes commands.List names forms p None stops.Done output []
+writes_list names forms p code output t c = rw (t, c) of_list

@@ -1,41 +1,83 @@
 -- What the parts of a call say to each other.
-use Rattle.std.specs.Prelude.{◌≡◌, ◌⊎◌, ◌++◌, ℕ, List, [], Option, Some, Result, Ok, Err}
+use Rattle.std.specs.Prelude.{◌≡◌, ◌⊎◌, ◌++◌, ℕ, true, List, [], Option, Some, None, Result, Ok, Err}
+use Rattle.ql_base.specs.Limits.{usual}
 use Rattle.ql_forms.specs.Form.{Forms}
-use Rattle.ql_expand.specs.Core as meant
-use Rattle.ql_expand.specs.ProgramView.{program_of}
+use Rattle.ql_expand.specs.Core.{Program}
+use Rattle.ql_world.specs.Event.{turns}
+use Rattle.ql_world.specs.Text.{journal_text}
+use Rattle.ql_world.specs.declared.event.Stop.{Stop}
+use Rattle.ql_world.specs.declared.event.Stop.TheVariants.{Done as done}
+use Rattle.ql_code.specs.Code.{Code}
+use Rattle.ql_code.specs.Machine.{code_planned}
+use Rattle.ql_host.specs.Host.{Told, IsTold}
 use Rattle.ql_compile.specs.Compile.{compiled}
-use Rattle.ql_top.specs.declared.accept.Accepted.{Accepted}
 use Rattle.ql_top.specs.Reading.{Takes}
 use Rattle.ql_top.specs.Top.{Answers, Unfit, Makes, Writes}
 use Rattle.ql_top.specs.declared.top.Texts.{Texts}
+use Rattle.ql_top.specs.declared.top.Texts.TheVariants.{Ran, Alone}
 use Rattle.ql_top.specs.declared.words.Command.{Command}
+use Rattle.ql_top.specs.declared.status.Ended.{Ended}
 use Rattle.ql_top.specs.declared.status.Status.{Status}
 use Rattle.ql_top.specs.declared.status.Status.TheVariants.{Refused, NoMemory}
 
--- the program that forms make and its code, or what is wrong with them whatever the command, or want of memory
-abbrev pub Accepts : Result Accepted Status → List (List ℕ) → Forms → Type 0
-Accepts (Ok accepted) names forms =
-    Makes names forms (program_of accepted.scoped.program) × (accepted.code ≡ compiled (program_of accepted.scoped.program))
-Accepts (Err (Refused kind at)) names forms = (command : Command) → Unfit command names forms kind at
+-- the code is that of the program that the forms make
+pub record IsCodeOf (code : Code) (names : List (List ℕ)) (forms : Forms) : Type 0 where
+  pub program : Program
+  pub makes : Makes names forms program
+  pub code_is : code ≡ compiled program
+
+-- the code of forms, or what is wrong with them, or want of memory
+abbrev pub Accepts : Result Code Status → List (List ℕ) → Forms → Type 0
+Accepts (Ok code) names forms = IsCodeOf code names forms
+Accepts (Err (Refused kind at)) names forms = Unfit names forms kind at
 Accepts (Err NoMemory) names forms = Prim.Unit {0}
 Accepts (Err status) names forms = Prim.⊥
 
+abbrev pub told_in : Texts → Option Told
+told_in (Ran told lines) = Some told
+told_in (Alone output) = None
+
+abbrev pub stop_in : Texts → Stop
+stop_in (Ran told lines) = told.story.stop
+stop_in (Alone output) = done
+
+abbrev pub output_in : Texts → List ℕ
+output_in (Ran told lines) = told.story.output
+output_in (Alone output) = output.items
+
+abbrev pub lines_in : Texts → List ℕ
+lines_in (Ran told lines) = lines.items
+lines_in (Alone output) = []
+
+-- they are of a run of this code by one worker, under the usual limits
+pub record IsRunOf (code : Code) (names : List (List ℕ)) (told : Told) (lines : List ℕ) : Type 0 where
+  pub code_is : told.code ≡ code
+  pub names_are : told.names ≡ names
+  pub limits_are : told.limits ≡ usual
+  pub is_told : IsTold told
+  pub planned : code_planned names code usual (turns told.story.journal.events) ≡ true
+  pub lines_are : lines ≡ journal_text told.story.journal
+
+abbrev pub HasRun : Code → List (List ℕ) → Texts → Type 0
+HasRun code names (Ran told lines) = IsRunOf code names told lines.items
+HasRun code names (Alone output) = Prim.⊥
+
 -- what a command writes for these forms, which make a program
 pub record HasTexts (command : Command) (texts : Texts) (names : List (List ℕ)) (forms : Forms) : Type 0 where
-  pub program : meant.Program
+  pub program : Program
   pub makes : Makes names forms program
-  pub writes : Writes command names forms program texts.stop texts.output.items texts.journal.items
+  pub writes : Writes command names forms program (told_in texts) (stop_in texts) (output_in texts) (lines_in texts)
 
 -- the texts of a command on these forms, or what is wrong with them, or want of memory
 abbrev pub Gives : Command → Result Texts Status → List (List ℕ) → Forms → Type 0
 Gives command (Ok texts) names forms = HasTexts command texts names forms
-Gives command (Err (Refused kind at)) names forms = Unfit command names forms kind at
+Gives command (Err (Refused kind at)) names forms = Unfit names forms kind at
 Gives command (Err NoMemory) names forms = Prim.Unit {0}
 Gives command (Err status) names forms = Prim.⊥
 
 -- Some bytes were taken, and with what is left, where the source tells that, or with nothing more, the answer is right for
 -- them.
-pub record AnswersSome (command : Command) (status : Status) (left left' out out' journal journal' : Option (List ℕ)) : Type 0 where
+pub record AnswersSome (command : Command) (ended : Ended) (left left' out out' journal journal' : Option (List ℕ)) : Type 0 where
   pub taken : List ℕ
   pub takes : Takes taken left left'
-  pub answers : (rest : List ℕ) → (left' ≡ Some rest) ⊎ (rest ≡ []) → Answers command status (taken ++ rest) (Some rest) out out' journal journal'
+  pub answers : (rest : List ℕ) → (left' ≡ Some rest) ⊎ (rest ≡ []) → Answers command ended (taken ++ rest) (Some rest) out out' journal journal'

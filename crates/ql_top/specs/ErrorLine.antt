@@ -2,9 +2,10 @@
 use Rattle.std.specs.Prelude.{ℕ, List, [], ◌∷◌, ◌++◌, codes}
 use Rattle.std.specs.Borrow.{Bor}
 use Rattle.std.specs.Fmt.{decimal}
+use Rattle.ql_world.specs.Text.{fault_name, limit_name}
 use Rattle.ql_top.specs.declared.status.Status.{Status}
 use Rattle.ql_top.specs.declared.status.Status.TheVariants.{Done, Refused, Words, Fault, Budget, Deadlock, Limit, NoMemory, ReadFault, WriteFault}
-use Rattle.ql_top.specs.Texts.{fault_name, limit_name, refusal_name}
+use Rattle.ql_top.specs.Texts.{refusal_name}
 
 -- texts one after another
 abbrev pub joined : List (Bor (List ℕ)) → List ℕ

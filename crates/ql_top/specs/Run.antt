@@ -1,48 +1,32 @@
--- Runs along a schedule, and what is told of them.
-use Rattle.std.specs.Prelude.{ℕ, ◌==◌, not, if◌then◌else◌, List, [], ◌∷◌, reverse, Option, Some, None, is_none, option_map, option_and_then}
-use Rattle.std.specs.List.{list_all, list_any}
+-- What is told of the run of a program by one worker.
+use Rattle.std.specs.Prelude.{◌≡◌, ℕ, true, List, ◌∷◌, ◌++◌, Some}
 use Rattle.ql_base.specs.declared.limits.Limits.{Limits}
-use Rattle.ql_top.specs.declared.world.Event.{Event}
-use Rattle.ql_top.specs.declared.world.Event.TheVariants.{Stopped}
-use Rattle.ql_top.specs.declared.world.Stop.{Stop}
-use Rattle.ql_top.specs.declared.world.Stop.TheVariants.{Done, Deadlock, Budget}
-use Rattle.ql_top.specs.World.{World}
-use Rattle.ql_top.specs.Tick.{Machine, can_step, tick}
+use Rattle.ql_expand.specs.Core.{Program}
+use Rattle.ql_world.specs.Event.{turns}
+use Rattle.ql_world.specs.World.{World, numbered}
+use Rattle.ql_world.specs.declared.world.Aim.TheVariants.{Die as die}
+use Rattle.ql_world.specs.declared.world.Process.{Process}
+use Rattle.ql_world.specs.Tick.{tick}
+use Rattle.ql_world.specs.Run.{Story}
+use Rattle.ql_meaning.specs.Context.{context_of}
+use Rattle.ql_meaning.specs.Control.{Thread, Closure, core_machine}
+use Rattle.ql_meaning.specs.Meaning.{program_told, program_planned}
+use Rattle.ql_meaning.specs.Laws.{IsReached}
+use Rattle.ql_meaning.specs.Legal.{Legal}
+use Rattle.ql_meaning.specs.CleanupTick.{CleanupTick}
 
--- what is told of a run that stopped
-pub record Story : Type 0 where
-  pub output : List ℕ
-  pub journal : List Event
-  pub stop : Stop
+module _ (names : List (List ℕ)) (program : Program) (limits : Limits) where
+  -- along this schedule each tick of a process that was killed only cleans up
+  abbrev pub CleansUpAlong : List ℕ → Type 0
+  CleansUpAlong schedule =
+      (before after : List ℕ) (n : ℕ) (old new : World Thread Closure) (q : Process Thread) → schedule ≡ before ++ n ∷ after
+      → IsReached names program limits before old → numbered old.procs n ≡ Some q → q.aim ≡ die
+      → tick (core_machine (context_of program)) names limits old n ≡ Some new → CleanupTick (core_machine (context_of program)) q old new
 
--- the mark of the last tick, or else the other
-abbrev pub mark_or : Option Stop → Option Stop → Option Stop
-mark_or (Some stop) other = Some stop
-mark_or None other = other
-
-module _ {P : Type 0} where
-  -- no process can step, or else the budget is spent
-  abbrev pub stuck_or_spent : Machine P → Limits → World P → Option Stop
-  stuck_or_spent m limits w =
-      if not (list_any (λ c. can_step (m.want c)) w.procs) then Some Deadlock
-      else (if w.ticks == limits.budget then Some Budget else None)
-
-  -- Why a run stops in this state, if it does: all processes have ended, the last tick erred or met a limit, no
-  -- process can step, or the budget is spent. The first of these that applies.
-  abbrev pub stop_of : Machine P → Limits → World P → Option Stop
-  stop_of m limits w = if list_all m.ended w.procs then Some Done else mark_or w.mark (stuck_or_spent m limits w)
-
-  -- The state after a schedule, a list of process numbers. There is none where a process in it can't step, or where
-  -- the run has stopped before the schedule's end.
-  abbrev pub run : Machine P → Limits → World P → List ℕ → Option (World P)
-  run m limits w [] = Some w
-  run m limits w (p ∷ ps) =
-      if is_none (stop_of m limits w) then option_and_then (λ v. run m limits v ps) (tick m limits w p) else None
-
-  -- the output, and the events in order, of which the stop is the last
-  abbrev pub story_of : World P → Stop → Story
-  story_of w stop = record { output = w.output; journal = reverse (Stopped stop ∷ w.events); stop = stop }
-
-  -- what is told of the run along a schedule, where that run stops at its end and not before
-  abbrev pub told : Machine P → Limits → World P → List ℕ → Option Story
-  told m limits w schedule = option_and_then (λ v. option_map (story_of v) (stop_of m limits v)) (run m limits w schedule)
+  -- The story is told along the schedule that its own journal spells, which is that of one worker. The journal is legal, and
+  -- along its schedule the killed only clean up.
+  pub record IsRun (story : Story) : Type 0 where
+    pub told : program_told names program limits (turns story.journal.events) ≡ Some story
+    pub planned : program_planned names program limits (turns story.journal.events) ≡ true
+    pub legal : Legal story.journal.events
+    pub cleans : CleansUpAlong (turns story.journal.events)

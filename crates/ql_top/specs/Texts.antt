@@ -1,27 +1,5 @@
--- Names and numbers in the lines that are written.
+-- Names in the lines that are written.
 use Rattle.std.specs.Prelude.{ℕ, ◌==◌, if◌then◌else◌, List, codes}
-use Rattle.ql_base.specs.declared.fault.RunFault.{RunFault}
-use Rattle.ql_base.specs.declared.fault.RunFault.TheVariants.{Overflow, NotNumber, NotPair, DivZero, Unbound, NoCatch, DeadFuture, DeadClosure, WrongCount, NotFunction, InCleanup}
-use Rattle.ql_base.specs.declared.limits.LimitKind.{LimitKind}
-use Rattle.ql_base.specs.declared.limits.LimitKind.TheVariants.{Cells, Procs, Output}
-
-abbrev pub fault_name : RunFault → List ℕ
-fault_name Overflow = codes "overflow"
-fault_name NotNumber = codes "notnumber"
-fault_name NotPair = codes "notpair"
-fault_name DivZero = codes "divzero"
-fault_name Unbound = codes "unbound"
-fault_name NoCatch = codes "nocatch"
-fault_name DeadFuture = codes "deadfuture"
-fault_name DeadClosure = codes "deadclosure"
-fault_name WrongCount = codes "wrongcount"
-fault_name NotFunction = codes "notfunction"
-fault_name InCleanup = codes "incleanup"
-
-abbrev pub limit_name : LimitKind → List ℕ
-limit_name Cells = codes "cells"
-limit_name Procs = codes "procs"
-limit_name Output = codes "output"
 
 -- the name of a kind of refusal
 abbrev pub refusal_name : ℕ → List ℕ

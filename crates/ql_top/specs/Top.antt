@@ -1,5 +1,5 @@
 -- What a call of the top answers.
-use Rattle.std.specs.Prelude.{◌≡◌, ◌⊎◌, ◌≤◌, ◌+◌, ◌++◌, ℕ, List, [], length, Option, Some, None, codes}
+use Rattle.std.specs.Prelude.{◌≡◌, ◌⊎◌, ◌↔◌, ◌≤◌, ◌+◌, ◌++◌, ℕ, List, [], length, Option, Some, None, codes}
 use Rattle.ql_base.specs.Limits.{usual}
 use Rattle.ql_base.specs.Outside.{HasRisen, Appends, AppendsFront}
 use Rattle.ql_forms.specs.Form.{Forms}
@@ -11,24 +11,22 @@ use Rattle.ql_expand.specs.Core.{Program}
 use Rattle.ql_expand.specs.ExpandFault.{expand_fault}
 use Rattle.ql_expand.specs.Expands.{ExpandsTo}
 use Rattle.ql_scope.specs.Scope.{InScope, scope_fault}
+use Rattle.ql_world.specs.Text.{journal_text}
+use Rattle.ql_world.specs.declared.event.Stop as stop
+use Rattle.ql_world.specs.declared.event.Stop.TheVariants as stops
 use Rattle.ql_code.specs.Listing.{listing}
+use Rattle.ql_host.specs.Host.{Told}
 use Rattle.ql_compile.specs.Compile.{compiled}
 use Rattle.ql_compile.specs.Laws.{IsTooLong}
-use Rattle.ql_top.specs.Runnable.{Core, program_of}
-use Rattle.ql_top.specs.Meaning.{program_told}
-use Rattle.ql_top.specs.Run.{Story}
-use Rattle.ql_top.specs.World.{turns}
-use Rattle.ql_top.specs.declared.world.Stop as stop
-use Rattle.ql_top.specs.declared.world.Stop.TheVariants as stops
 use Rattle.ql_read.specs.TextFault.{TextFault}
 use Rattle.ql_top.specs.ErrorLine.{error_line}
-use Rattle.ql_top.specs.JournalText.{journal_text}
 use Rattle.ql_top.specs.Reading.{Takes, IsCutShort}
+use Rattle.ql_top.specs.Run.{IsRun}
 use Rattle.ql_top.specs.Status.{status_of}
-use Rattle.ql_top.specs.Unbuilt.{first_unbuilt}
 use Rattle.ql_top.specs.declared.words.Command.{Command}
 use Rattle.ql_top.specs.declared.words.Command.TheVariants as commands
 use Rattle.ql_top.specs.declared.words.Command.TheVariants.{Run, Show, Check}
+use Rattle.ql_top.specs.declared.status.Ended.{Ended}
 use Rattle.ql_top.specs.declared.status.Status.{Status}
 use Rattle.ql_top.specs.declared.status.Status.TheVariants.{Refused, Words, NoMemory, ReadFault, WriteFault}
 
@@ -47,29 +45,25 @@ pub record Makes (names : List (List ℕ)) (forms : Forms) (program : Program) :
   pub short : length (compiled program).instructions ≤ 65535
 
 -- What is wrong with forms, by kind and offset: their first fault, or else the first fault of the names in their program, or
--- else the 65,536th instruction of its code. To run, all forms of the program must be of kinds that can be run: the first that
--- isn't is kind 9.
-pub data Unfit : Command → List (List ℕ) → Forms → (kind at : ℕ) → Type 0 where
-  by_forms : {command : Command} {names : List (List ℕ)} {forms : Forms} {kind at : ℕ} → expand_fault names forms ≡ Some (at, kind)
-      → Unfit command names forms kind at
-  by_scope : {command : Command} {names : List (List ℕ)} {forms : Forms} {kind at : ℕ} (program : Program) → expand_fault names forms ≡ None
-      → ExpandsTo forms program → scope_fault program ≡ Some (at, kind) → Unfit command names forms kind at
-  by_code : {command : Command} {names : List (List ℕ)} {forms : Forms} {at : ℕ} (program : Program) → expand_fault names forms ≡ None
-      → ExpandsTo forms program → InScope program → IsTooLong (compiled program) at → Unfit command names forms 19 at
-  by_kind : {names : List (List ℕ)} {forms : Forms} {at : ℕ} {program : Program} → Makes names forms program
-      → first_unbuilt program ≡ Some at → Unfit Run names forms 9 at
+-- else the 65,536th instruction of its code.
+pub data Unfit : List (List ℕ) → Forms → (kind at : ℕ) → Type 0 where
+  by_forms : {names : List (List ℕ)} {forms : Forms} {kind at : ℕ} → expand_fault names forms ≡ Some (at, kind) → Unfit names forms kind at
+  by_scope : {names : List (List ℕ)} {forms : Forms} {kind at : ℕ} (program : Program) → expand_fault names forms ≡ None
+      → ExpandsTo forms program → scope_fault program ≡ Some (at, kind) → Unfit names forms kind at
+  by_code : {names : List (List ℕ)} {forms : Forms} {at : ℕ} (program : Program) → expand_fault names forms ≡ None
+      → ExpandsTo forms program → InScope program → IsTooLong (compiled program) at → Unfit names forms 19 at
 
--- The refusals of a command. The fault of the text comes before anything that is wrong with the forms.
-pub data Refusal : Command → List ℕ → (kind at : ℕ) → Type 0 where
-  of_text : {command : Command} {bytes : List ℕ} {kind at : ℕ} → TextFault bytes kind at → Refusal command bytes kind at
-  of_forms : {command : Command} {bytes : List ℕ} {kind at : ℕ} {names : List (List ℕ)} {forms : Forms} → IsText bytes names forms
-      → Unfit command names forms kind at → Refusal command bytes kind at
+-- What refuses bytes, whatever the command. The fault of the text comes before anything that is wrong with the forms.
+pub data Refusal : List ℕ → (kind at : ℕ) → Type 0 where
+  of_text : {bytes : List ℕ} {kind at : ℕ} → TextFault bytes kind at → Refusal bytes kind at
+  of_forms : {bytes : List ℕ} {kind at : ℕ} {names : List (List ℕ)} {forms : Forms} → IsText bytes names forms → Unfit names forms kind at
+      → Refusal bytes kind at
 
 -- This refuses the bytes, and nothing else does. A fault of the text, which is of one of the kinds up to 8, is found at most
 -- 4,096 bytes beyond its offset; for any other kind the whole source was read.
-pub record IsRefused (command : Command) (bytes : List ℕ) (left : Option (List ℕ)) (kind at : ℕ) : Type 0 where
-  pub refusal : Refusal command bytes kind at
-  pub only : (k n : ℕ) → Refusal command bytes k n → (k ≡ kind) × (n ≡ at)
+pub record IsRefused (bytes : List ℕ) (left : Option (List ℕ)) (kind at : ℕ) : Type 0 where
+  pub refusal : Refusal bytes kind at
+  pub only : (k n : ℕ) → Refusal bytes k n → (k ≡ kind) × (n ≡ at)
   pub taken : List ℕ
   pub rest : List ℕ
   pub parts : bytes ≡ taken ++ rest
@@ -84,31 +78,31 @@ pub record IsSource (bytes : List ℕ) (program : Program) : Type 0 where
   pub is_text : IsText bytes names forms
   pub makes : Makes names forms program
 
--- the bytes are the source of a program, all of which can be run, and this is its core
-pub record IsProgram (bytes : List ℕ) (core : List Core) : Type 0 where
-  pub program : Program
-  pub is_source : IsSource bytes program
-  pub has_core : program_of program ≡ Some core
-
--- This stop, this output and this text of a journal are what is told along the schedule that the journal itself spells.
-pub record IsTold (told : List ℕ → Option Story) (stop : stop.Stop) (output lines : List ℕ) : Type 0 where
-  pub story : Story
-  pub is_told : told (turns story.journal) ≡ Some story
-  pub stop_is : stop ≡ story.stop
-  pub output_is : output ≡ story.output
-  pub lines_are : lines ≡ journal_text story.journal
+-- A host has told of the run of the program's code, under the usual limits, and these are its stop, its output and the text
+-- of its journal.
+pub record IsTold (names : List (List ℕ)) (program : Program) (told : Option Told) (stop : stop.Stop) (output lines : List ℕ) : Type 0 where
+  pub run : Told
+  pub is_told : told ≡ Some run
+  pub code_is : run.code ≡ compiled program
+  pub names_are : run.names ≡ names
+  pub limits_are : run.limits ≡ usual
+  pub is_run : IsRun names program usual run.story
+  pub stop_is : stop ≡ run.story.stop
+  pub output_is : output ≡ run.story.output
+  pub lines_are : lines ≡ journal_text run.story.journal
 
 -- the text that says that nothing refuses a source
 abbrev pub approval : List ℕ
 approval = codes "ok\n"
 
--- The texts of a command, for the output and for the journal, and the stop by which it ends where they are written.
-pub data Writes : Command → List (List ℕ) → Forms → Program → stop.Stop → (output lines : List ℕ) → Type 0 where
-  of_run : {names : List (List ℕ)} {forms : Forms} {program : Program} {core : List Core} {stop : stop.Stop} {output lines : List ℕ}
-      → program_of program ≡ Some core → IsTold (program_told core usual) stop output lines → Writes Run names forms program stop output lines
-  of_show : {names : List (List ℕ)} {forms : Forms} {program : Program} → Writes Show names forms program stops.Done (forms_text (spelled_forms names forms)) []
-  of_check : {names : List (List ℕ)} {forms : Forms} {program : Program} → Writes Check names forms program stops.Done approval []
-  of_list : {names : List (List ℕ)} {forms : Forms} {program : Program} → Writes commands.List names forms program stops.Done (listing names (compiled program)) []
+-- The texts of a command, for the output and for the journal, and the stop by which it ends where they are written. Of the
+-- run alone a host has told.
+pub data Writes : Command → List (List ℕ) → Forms → Program → Option Told → stop.Stop → (output lines : List ℕ) → Type 0 where
+  of_run : {names : List (List ℕ)} {forms : Forms} {program : Program} {told : Option Told} {stop : stop.Stop} {output lines : List ℕ}
+      → IsTold names program told stop output lines → Writes Run names forms program told stop output lines
+  of_show : {names : List (List ℕ)} {forms : Forms} {program : Program} → Writes Show names forms program None stops.Done (forms_text (spelled_forms names forms)) []
+  of_check : {names : List (List ℕ)} {forms : Forms} {program : Program} → Writes Check names forms program None stops.Done approval []
+  of_list : {names : List (List ℕ)} {forms : Forms} {program : Program} → Writes commands.List names forms program None stops.Done (listing names (compiled program)) []
 
 -- Output holds a front of its text, and the journal nothing new, or else output holds its whole text, and the journal a
 -- front of its own.
@@ -123,30 +117,34 @@ Written status stop output lines out out' journal journal' =
     (status ≡ status_of stop) × (Appends output out out' × Appends lines journal journal')
 
 -- the whole source was read, nothing refuses it, and the texts of the command are written
-pub record IsDone (command : Command) (status : Status) (bytes : List ℕ) (left out out' journal journal' : Option (List ℕ)) : Type 0 where
+pub record IsDone (command : Command) (ended : Ended) (bytes : List ℕ) (left out out' journal journal' : Option (List ℕ)) : Type 0 where
   pub program : Program
   pub source : IsSource bytes program
-  pub accepted : (kind at : ℕ) → Refusal command bytes kind at → Prim.⊥
+  pub accepted : (kind at : ℕ) → Refusal bytes kind at → Prim.⊥
   pub none_left : left ≡ Some []
   pub stop : stop.Stop
   pub output : List ℕ
   pub lines : List ℕ
-  pub writes : Writes command source.names source.forms program stop output lines
-  pub written : Written status stop output lines out out' journal journal'
+  pub writes : Writes command source.names source.forms program ended.told stop output lines
+  pub written : Written ended.status stop output lines out out' journal journal'
+
+-- how a command ends with this status
+abbrev pub EndsBy : Status → Command → Ended → (bytes : List ℕ) → (left out out' journal journal' : Option (List ℕ)) → Type 0
+EndsBy (Refused kind at) command ended bytes left out out' journal journal' = IsRefused bytes left kind at
+EndsBy Words command ended bytes left out out' journal journal' = Prim.⊥
+EndsBy NoMemory command ended bytes left out out' journal journal' = Prim.Unit {0}
+EndsBy ReadFault command ended bytes left out out' journal journal' = IsCutShort (Some bytes) left
+EndsBy status command ended bytes left out out' journal journal' = IsDone command ended bytes left out out' journal journal'
 
 -- what a command answers for a source of these bytes, some of which may be left
-abbrev pub Answers : Command → Status → (bytes : List ℕ) → (left out out' journal journal' : Option (List ℕ)) → Type 0
-Answers command (Refused kind at) bytes left out out' journal journal' = IsRefused command bytes left kind at
-Answers command Words bytes left out out' journal journal' = Prim.⊥
-Answers command NoMemory bytes left out out' journal journal' = Prim.Unit {0}
-Answers command ReadFault bytes left out out' journal journal' = IsCutShort (Some bytes) left
-Answers command status bytes left out out' journal journal' = IsDone command status bytes left out out' journal journal'
+abbrev pub Answers : Command → Ended → (bytes : List ℕ) → (left out out' journal journal' : Option (List ℕ)) → Type 0
+Answers command ended bytes left out out' journal journal' = EndsBy ended.status command ended bytes left out out' journal journal'
 
 -- The answer is right for the bytes that were taken, whether or not the source tells them.
-pub record AnswersTaken (command : Command) (status : Status) (left left' out out' journal journal' : Option (List ℕ)) : Type 0 where
+pub record AnswersTaken (command : Command) (ended : Ended) (left left' out out' journal journal' : Option (List ℕ)) : Type 0 where
   pub taken : List ℕ
   pub takes : Takes taken left left'
-  pub answers : Answers command status taken (Some []) out out' journal journal'
+  pub answers : Answers command ended taken (Some []) out out' journal journal'
 
 -- The line of a status was written, or a front of it before a call failed.
 abbrev pub SaysStatus : Status → (err err' : Option (List ℕ)) → (faults faults' : ℕ) → Type 0
@@ -164,6 +162,11 @@ IsSilent Words = Prim.Unit {0}
 IsSilent NoMemory = Prim.Unit {0}
 IsSilent ReadFault = Prim.Unit {0}
 IsSilent status = Prim.⊥
+
+-- Of a run a host has told, unless output and journal hold nothing new. Of any other command none has.
+abbrev pub Tells : Option Command → Status → Option Told → Type 0
+Tells (Some Run) status told = (told ≡ None) ↔ IsSilent status
+Tells command status told = told ≡ None
 
 -- The counts of faults of output and journal rise just where the answer is a write fault: one of them has risen then.
 abbrev pub WriteFaults : Status → (out out' journal journal' : ℕ) → Type 0

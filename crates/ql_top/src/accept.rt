@@ -1,4 +1,4 @@
-//! The program that the forms of a source make, and its code.
+//! The code of the program that the forms of a source make.
 
 ghost use Rattle.std.specs.Prelude.{◌≡◌, ℕ, List, None};
 ghost use Rattle.ql_forms.specs.Form.{Forms};
@@ -19,22 +19,15 @@ use ql_scope::check::{ScopeRefusal, check};
 use ql_scope::scoped::Scoped;
 use std::alloc::Global;
 
-/// A program in scope, and its code.
-#[derive(Drop)]
-pub struct Accepted<'a> {
-    pub scoped: Scoped<'a>,
-    pub code: Code,
-}
-
-/// The program that the forms of a source expand to, if its names are in scope and its code isn't too
-/// long. A fault of the forms is answered before any fault of the names, and that before the length
+/// The code of the program that the forms of a source expand to, if its names are in scope and it isn't
+/// too long. A fault of the forms is answered before any fault of the names, and that before the length
 /// of the code.
-pub fn accept<'a>(alloc: Global, text: &'a Text) -> Result<Accepted<'a>, Status>
+pub fn accept(alloc: Global, text: &Text) -> Result<Code, Status>
     ensures { Accepts result text.now.names (forms_of text.now.forms) }
 {
     match expand(alloc, text) {
         Ok(program) => match check(alloc, program) {
-            Ok(scoped) => with_code(alloc, scoped),
+            Ok(scoped) => code_of(alloc, &scoped),
             Err(ScopeRefusal::Bad { kind, at }) => Err(Status::Refused { kind, at }),
             Err(ScopeRefusal::Memory(_)) => Err(Status::NoMemory),
         },
@@ -43,12 +36,12 @@ pub fn accept<'a>(alloc: Global, text: &'a Text) -> Result<Accepted<'a>, Status>
     }
 }
 
-/// A program in scope with its code, if that isn't too long.
-fn with_code<'a>(alloc: Global, scoped: Scoped<'a>) -> Result<Accepted<'a>, Status>
-    ensures { (names : List (List ℕ)) (forms : Forms) → expand_fault names forms ≡ None → ExpandsTo forms (program_of scoped.entry.program) → InScope (program_of scoped.entry.program) → Accepts result names forms }
+/// The code of a program in scope, if that isn't too long.
+fn code_of(alloc: Global, scoped: &Scoped) -> Result<Code, Status>
+    ensures { (names : List (List ℕ)) (forms : Forms) → expand_fault names forms ≡ None → ExpandsTo forms (program_of scoped.now.program) → InScope (program_of scoped.now.program) → Accepts result names forms }
 {
-    match compile(alloc, &scoped) {
-        Ok(code) => Ok(Accepted { scoped, code }),
+    match compile(alloc, scoped) {
+        Ok(code) => Ok(code),
         Err(CompileRefusal::TooLong { at }) => Err(Status::Refused {
             kind: FaultKind::CodeTooLong.number(),
             at,

@@ -1,20 +1,22 @@
-//! What is true of sources and of what refuses them, as functions that do nothing.
+//! What is true of sources, of what refuses them and of their runs, as functions that do nothing.
 
-ghost use Rattle.std.specs.Prelude.{◌≡◌, ℕ, List, None};
+ghost use Rattle.std.specs.Prelude.{◌≡◌, ℕ, List, Some, true};
+ghost use Rattle.ql_base.specs.declared.limits.Limits.{Limits};
+ghost use Rattle.ql_forms.specs.Form.{Forms};
 ghost use Rattle.ql_expand.specs.Core.{Program};
-ghost use Rattle.ql_top.specs.Runnable.{Core};
-ghost use Rattle.ql_top.specs.Top.{Refusal, IsSource, IsProgram};
-ghost use Rattle.ql_top.specs.Unbuilt.{first_unbuilt};
-ghost use Rattle.ql_top.specs.declared.words.Command.{Command};
+ghost use Rattle.ql_world.specs.Run.{Story};
+ghost use Rattle.ql_host.specs.Host.{AreNames};
+ghost use Rattle.ql_meaning.specs.Meaning.{program_told, program_planned};
+ghost use Rattle.ql_top.specs.Top.{IsText, Refusal, IsSource};
 
 use ql_base::laws::numbered_names_are_distinct;
 use ql_expand::laws::expands_to_at_most_one;
-use ql_forms::laws::numbered_at_most_one;
+use ql_forms::laws::{numbered_at_most_one, spelled_forms_can_be_spelled};
 use ql_read::laws::{a_text_has_at_most_one_fault, spells_at_most_one};
 
-/// A command refuses a source for one thing alone.
+/// Bytes are refused for one thing alone.
 pub fn refused_at_most_once()
-    ensures { (command : Command) (bytes : List ℕ) (k n kind at : ℕ) → Refusal command bytes k n → Refusal command bytes kind at → (k ≡ kind) × (n ≡ at) }
+    ensures { (bytes : List ℕ) (k n kind at : ℕ) → Refusal bytes k n → Refusal bytes kind at → (k ≡ kind) × (n ≡ at) }
 {
     a_text_has_at_most_one_fault();
     spells_at_most_one();
@@ -23,11 +25,9 @@ pub fn refused_at_most_once()
     expands_to_at_most_one();
 }
 
-/// No command refuses the source of a program in scope with a code that isn't too long, but to run it
-/// where a form can't be run yet.
+/// Nothing refuses the source of a program in scope with a code that isn't too long.
 pub fn programs_are_accepted()
-    ensures { (command : Command) (bytes : List ℕ) (program : Program) → IsSource bytes program → (command ≡ Command.Run → first_unbuilt program ≡ None)
-        → (kind at : ℕ) → Refusal command bytes kind at → ⊥ }
+    ensures { (bytes : List ℕ) (program : Program) → IsSource bytes program → (kind at : ℕ) → Refusal bytes kind at → ⊥ }
 {
     spells_at_most_one();
     numbered_names_are_distinct();
@@ -35,12 +35,27 @@ pub fn programs_are_accepted()
     expands_to_at_most_one();
 }
 
-/// Bytes are the source of at most one program that can be run.
+/// Bytes are the source of at most one program, with one list of names.
 pub fn at_most_one_program()
-    ensures { (bytes : List ℕ) (p q : List Core) → IsProgram bytes p → IsProgram bytes q → p ≡ q }
+    ensures programs { (bytes : List ℕ) (p q : Program) → IsSource bytes p → IsSource bytes q → p ≡ q }
+    ensures names { (bytes : List ℕ) (p q : Program) (s : IsSource bytes p) (t : IsSource bytes q) → s.names ≡ t.names }
 {
     spells_at_most_one();
     numbered_names_are_distinct();
     numbered_at_most_one();
     expands_to_at_most_one();
 }
+
+/// The names of a text can be printed.
+pub fn names_can_be_printed()
+    ensures { (bytes : List ℕ) (names : List (List ℕ)) (forms : Forms) → IsText bytes names forms → AreNames names }
+{
+    spelled_forms_can_be_spelled();
+}
+
+/// A program has at most one whole run by one worker.
+pub fn one_planned_schedule()
+    ensures { (names : List (List ℕ)) (program : Program) (limits : Limits) (s t : List ℕ) (x y : Story)
+        → program_told names program limits s ≡ Some x → program_told names program limits t ≡ Some y
+        → program_planned names program limits s ≡ true → program_planned names program limits t ≡ true → s ≡ t }
+{}

@@ -3,10 +3,11 @@
 ghost use Rattle.std.specs.Prelude.{◌≡◌};
 ghost use Rattle.ql_top.specs.Status.{status_of, code_of};
 
-use crate::world::Stop;
 use ql_base::fault::RunFault;
 use ql_base::limits::LimitKind;
 use ql_base::numbers::Pid;
+use ql_host::told::Told;
+use ql_world::event::Stop;
 
 /// How a call of the top ended.
 #[derive(Clone, Copy, Debug, PartialEq, Eq)]
@@ -33,6 +34,13 @@ pub enum Status {
     WriteFault,
 }
 
+/// How a call ended, and what a host told of the run, where there was one.
+#[derive(Drop)]
+pub struct Ended {
+    pub status: Status,
+    pub told: Option<Told>,
+}
+
 /// The exit code of a status.
 pub fn code_of(status: &Status) -> u8
     ensures { result ≡ code_of status.now }
@@ -57,7 +65,11 @@ pub fn status_of(stop: Stop) -> Status
 {
     match stop {
         Stop::Done => Status::Done,
-        Stop::Fault { kind, proc, at } => Status::Fault { kind, proc, at },
+        Stop::Fault { kind, proc, at } => Status::Fault {
+            kind,
+            proc: Pid(proc),
+            at,
+        },
         Stop::Limit { kind } => Status::Limit { kind },
         Stop::Deadlock => Status::Deadlock,
         Stop::Budget => Status::Budget,

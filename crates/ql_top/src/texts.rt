@@ -1,7 +1,8 @@
 //! Names in the lines that are written.
 
 ghost use Rattle.std.specs.Prelude.{◌≡◌};
-ghost use Rattle.ql_top.specs.Texts.{fault_name, limit_name, refusal_name};
+ghost use Rattle.ql_world.specs.Text.{fault_name, limit_name};
+ghost use Rattle.ql_top.specs.Texts.{refusal_name};
 
 use ql_base::fault::RunFault;
 use ql_base::limits::LimitKind;

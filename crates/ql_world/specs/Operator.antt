@@ -104,3 +104,9 @@ takes_one _ = false
 abbrev pub touches : Operator → Bool
 touches cons = false
 touches _ = true
+
+-- it gives a part of its operand
+abbrev pub takes_apart : Operator → Bool
+takes_apart car = true
+takes_apart cdr = true
+takes_apart o = false

@@ -1,5 +1,5 @@
 -- The texts of words and journals.
-use Rattle.std.specs.Prelude.{◌≡◌, ◌<◌, ◌≤◌, ℕ, zero, suc, leb, if◌then◌else◌, List, [], ◌∷◌, ◌++◌, length, Option, Some, None, slice_get, slice_index_or, decimal, codes}
+use Rattle.std.specs.Prelude.{◌≡◌, ◌<◌, ◌≤◌, ℕ, zero, suc, leb, nat_lt, if◌then◌else◌, List, [], ◌∷◌, ◌++◌, length, Option, Some, None, slice_get, slice_index_or, decimal, codes}
 use Rattle.std.specs.Fmt.{signed_decimal}
 use Rattle.ql_base.specs.declared.fault.RunFault.{RunFault}
 use Rattle.ql_base.specs.declared.fault.RunFault.TheVariants.{Overflow, NotNumber, NotPair, DivZero, Unbound, NoCatch, DeadFuture, DeadClosure, WrongCount, NotFunction, InCleanup}
@@ -15,10 +15,10 @@ abbrev pub number_text : List ℕ → ℕ → List ℕ
 number_text kind n = codes "#<" ++ kind ++ space ∷ decimal n ++ codes ">"
 
 module _ (names : List (List ℕ)) where
-  -- of a word that is no pair
+  -- of a word that is no pair; a program's symbols all have names
   abbrev pub plain_text : Word → List ℕ
   plain_text (integer z) = signed_decimal z
-  plain_text (symbol n) = slice_index_or names n []
+  plain_text (symbol n) = if nat_lt n (length names) then slice_index_or names n [] else number_text (codes "symbol") n
   plain_text (pair n) = []
   plain_text (closure n) = number_text (codes "function") n
   plain_text (process_closure n) = number_text (codes "process") n

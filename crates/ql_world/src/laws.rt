@@ -1,7 +1,7 @@
 //! What holds of every two machines.
 
 ghost use Rattle.ql_world.specs.Machine.{Machine};
-ghost use Rattle.ql_world.specs.Follows.{Follows, AreToldAlike};
+ghost use Rattle.ql_world.specs.Follows.{Follows, AreToldAlike, ArePlannedAlike};
 
 use std::marker::Brand;
 
@@ -50,4 +50,9 @@ impl Paired for Brand {
 /// Where the processes of one machine follow those of another, the same is told of both along every schedule.
 pub fn followers_are_told_alike<F: Paired>()
     ensures { (i : F.index) → Follows (F.machine i) (F.follower i) (F.related i) (F.alike i) → AreToldAlike (F.machine i) (F.follower i) (F.related i) (F.alike i) }
+{}
+
+/// Then one worker takes the same schedules of both.
+pub fn followers_are_planned_alike<F: Paired>()
+    ensures { (i : F.index) → Follows (F.machine i) (F.follower i) (F.related i) (F.alike i) → ArePlannedAlike (F.machine i) (F.follower i) (F.related i) (F.alike i) }
 {}

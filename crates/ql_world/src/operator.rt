@@ -1,7 +1,7 @@
 //! The primitives.
 
-ghost use Rattle.std.specs.Prelude.{◌≡◌, ◌+ℤ◌, ◌-ℤ◌, ◌*ℤ◌, int_div, int_rem};
-ghost use Rattle.ql_world.specs.Operator.{operator_of, takes_one, checked, divided, of_integers, of_two};
+ghost use Rattle.std.specs.Prelude.{◌≡◌, ◌+ℤ◌, ◌-ℤ◌, ◌*ℤ◌, int_div, int_rem, false, List};
+ghost use Rattle.ql_world.specs.Operator.{operator_of, takes_one, takes_apart, checked, divided, of_integers, of_one, of_two};
 
 use crate::word::Word;
 use ql_base::fault::RunFault;
@@ -91,6 +91,21 @@ impl Operator {
                 (Word::Int(y), Word::Int(z)) => self.of_integers(y, z),
                 _ => Computed::Fails(RunFault::NotNumber),
             },
+        }
+    }
+
+    /// Of one operand, which is no future. What takes a pair apart is left to whoever has the pairs.
+    pub fn of_one(self, w: Word) -> Computed
+        requires { takes_apart self ≡ false }
+        ensures { (pairs : List (Word × Word)) → result ≡ of_one pairs self w }
+    {
+        match self {
+            Operator::Null => Computed::Gives(Word::of_bool(w.is_nil())),
+            Operator::Atom => Computed::Gives(Word::of_bool(!w.is_pair())),
+            Operator::Consp => Computed::Gives(Word::of_bool(w.is_pair())),
+            Operator::Numberp => Computed::Gives(Word::of_bool(w.is_number())),
+            Operator::Symbolp => Computed::Gives(Word::of_bool(w.is_symbol())),
+            _ => Computed::Fails(RunFault::NotNumber),
         }
     }
 

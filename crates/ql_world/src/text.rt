@@ -2,6 +2,7 @@
 
 ghost use Rattle.std.specs.Prelude.{◌≡◌, ◌<◌, ◌≤◌, ◌+◌, ◌*◌, ◌++◌, ◌∷◌, [], IfOk, OnOk, length, nat_lt, option_map, slice_get, Some};
 ghost use Rattle.ql_world.specs.Text.{number_text, plain_text, end_text, value_text, IsBefore, AreOrdered, text_up_to};
+ghost use Rattle.ql_world.specs.declared.word.Word.TheVariants.{Sym};
 ghost use Rattle.ql_world.specs.declared.text.Part.TheVariants.{Item, Rest};
 ghost use Rattle.ql_world.specs.Parts.{part_text, parts_text, IsPartBefore, ArePartsBefore};
 
@@ -119,11 +120,21 @@ fn put_plain(text: &mut Vec<u8>, names: &Names, w: Word) -> Result<(), AllocErro
             let mut digits = Buffer::new();
             text.extend_from_slice(digits.format(n).as_bytes())
         }
-        Word::Sym(n) => text.extend_from_slice(names.letters(n)),
+        Word::Sym(n) => put_symbol(text, names, n),
         Word::Pair(_) => Ok(()),
         Word::Fun(n) => put_numbered(text, b"function", n),
         Word::Proc(n) => put_numbered(text, b"process", n),
         Word::Fut(n) => put_numbered(text, b"future", n),
+    }
+}
+
+fn put_symbol(text: &mut Vec<u8>, names: &Names, n: u32) -> Result<(), AllocError>
+    ensures { OnOk result (text.new.items ≡ text.old.items ++ plain_text names.now (Sym n)) }
+{
+    if n < names.len() {
+        text.extend_from_slice(names.letters(n))
+    } else {
+        put_numbered(text, b"symbol", n)
     }
 }
 

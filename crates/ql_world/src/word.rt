@@ -29,6 +29,7 @@ pub enum Slot {
 }
 
 impl Word {
+    ghost use Rattle.ql_world.specs.Operator.{is_pair, is_number, is_name};
     ghost use Rattle.ql_world.specs.Word.{of_bool, is_nil, identical, is_future, pair_in};
 
     /// The word of a truth value.
@@ -54,6 +55,36 @@ impl Word {
     {
         match self {
             Word::Fut(_) => true,
+            _ => false,
+        }
+    }
+
+    /// Whether it is a pair.
+    pub fn is_pair(self) -> bool
+        ensures { result ≡ is_pair self }
+    {
+        match self {
+            Word::Pair(_) => true,
+            _ => false,
+        }
+    }
+
+    /// Whether it is an integer.
+    pub fn is_number(self) -> bool
+        ensures { result ≡ is_number self }
+    {
+        match self {
+            Word::Int(_) => true,
+            _ => false,
+        }
+    }
+
+    /// Whether it is a symbol.
+    pub fn is_symbol(self) -> bool
+        ensures { result ≡ is_name self }
+    {
+        match self {
+            Word::Sym(_) => true,
             _ => false,
         }
     }

@@ -1,6 +1,7 @@
 //! What the processes of a run share.
 
-use crate::word::Word;
+use crate::word::{Slot, Word};
+use sqlite_items::Items;
 
 /// The state of a future.
 #[derive(Clone, Copy, Debug, PartialEq, Eq)]
@@ -47,6 +48,19 @@ pub enum Kind {
     Child(u32),
     /// It serves this process closure.
     Closure(u32),
+}
+
+/// A closure.
+#[derive(Debug, Drop)]
+pub struct Closure {
+    /// The place at which its body begins.
+    pub place: u32,
+    /// How many parameters it has.
+    pub count: u32,
+    /// Which of them are stored.
+    pub mask: u32,
+    /// The slots that it has captured.
+    pub captured: Items<Slot>,
 }
 
 /// A running cleanup.

@@ -1,16 +1,15 @@
-use Rattle.std.proofs.Common.{◌+◌, ◌*◌}
+use Rattle.std.proofs.Common.{◌+◌, ◌*◌, take}
+use Rattle.std.specs.List.{AllZip}
 use Rattle.ql_forms.specs.View.{form_of, forms_of}
-use Rattle.ql_expand.specs.Expands.{Binds}
-use Rattle.ql_expand.proofs.Gathering.{with_cores, with_bounds}
-use Rattle.ql_expand.proofs.Loops.{SoFar}
-use Rattle.ql_expand.specs.Building.{EachOf, weight, weights}
+use Rattle.ql_expand.proofs.Gathering.{IsCore, IsBound}
+use Rattle.ql_expand.specs.Building.{weight, weights}
 use Rattle.ql_expand.proofs.build.+build.Given as goal
 
 abbrev pub invariant-each-loop-form : goal.invariant-each-loop-form
-invariant-each-loop-form l = SoFar (EachOf l.dropped) with_cores l.forms l.form-index l.cores.items
+invariant-each-loop-form l = AllZip (IsCore l.dropped) (take l.form-index l.forms) l.cores.items
 
 abbrev pub invariant-all_bound-loop-form : goal.invariant-all_bound-loop-form
-invariant-all_bound-loop-form l = SoFar Binds with_bounds l.forms l.form-index l.bounds.items
+invariant-all_bound-loop-form l = AllZip IsBound (take l.form-index l.forms) l.bounds.items
 
 abbrev pub decreases-expanded : goal.decreases-expanded
 decreases-expanded l = 8 * weight (form_of l.form.now) + 7

@@ -1,6 +1,7 @@
-use Rattle.ql_expand.proofs.Binders.{Named, with_binders}
-use Rattle.ql_expand.proofs.Loops.{SoFar}
+use Rattle.std.proofs.Common.{take}
+use Rattle.std.specs.List.{AllZip}
+use Rattle.ql_expand.proofs.Gathering.{IsNamed}
 use Rattle.ql_expand.proofs.build.all_binders.Given as goal
 
 abbrev pub invariant-loop-form : goal.invariant-loop-form
-invariant-loop-form l = SoFar Named with_binders l.forms l.form-index l.binders.items
+invariant-loop-form l = AllZip IsNamed (take l.form-index l.forms) l.binders.items

@@ -7,6 +7,6 @@ pub returns-in-Ok-clause-texts : goal.returns-in-Ok-clause-texts
 returns-in-Ok-clause-texts c forms p made same = record {
   program = p;
   makes = made;
-  writes = writes_list c.args.names.now forms p c.args.code.now _ _ c.write_listing.new.to.items _ c.output_alone.ensures.stop c.output_alone.ensures.output
-      (c.in-Ok.ensures.ok ∙ ap (λ t. t ++ listing c.args.names.now c.args.code.now) c.new-output.ensures.items) same c.output_alone.ensures.journal;
+  writes = writes_list c.args.names.now forms p c.args.code.now c.write_listing.new.to.items
+      (c.in-Ok.ensures.ok ∙ ap (λ t. t ++ listing c.args.names.now c.args.code.now) c.new-output.ensures.items) same;
 }

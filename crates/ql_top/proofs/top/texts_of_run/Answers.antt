@@ -1,18 +1,7 @@
-use Rattle.std.proofs.Common.{ap, Err}
-use Rattle.ql_expand.specs.ProgramView.{program_of}
-use Rattle.ql_top.specs.Top.{by_kind}
-use Rattle.ql_top.proofs.Telling.{writes_run}
+use Rattle.ql_top.proofs.Telling.{texts_of_run}
 use Rattle.ql_top.proofs.top.texts_of_run.Goals as goal
 
-pub returns-in-Ok-texts_of_code : goal.returns-in-Ok-texts_of_code
-returns-in-Ok-texts_of_code c names forms made =
-    let core = c.in-Ok.ensures.ok in
-    record {
-      program = program_of c.args.program.now;
-      makes = made;
-      writes = writes_run names forms (program_of c.args.program.now) core.0 c.in-Ok.code.items _ _ _ core.1 (c.in-Ok.ensures.simulation core.0 core.1)
-          (rw c.as_slice.ensures.value at c.in-Ok-texts_of_code.ensures);
-    }
-
-pub returns-in-Err-Unbuilt : goal.returns-in-Err-Unbuilt
-returns-in-Err-Unbuilt c names forms made = rw c.in-Err-Unbuilt.at-is (by_kind made (c.in-Err-Unbuilt.ensures.unbuilt c.in-Err-Unbuilt.at (ap Err c.in-Err-Unbuilt.field-0-is)))
+pub returns-in-Ok : goal.returns-in-Ok
+returns-in-Ok c forms p made same =
+    texts_of_run c.scoped_is_compilable.ensures c.code_follows_program.ensures c.code_is_planned_as_program.ensures c.journals_are_legal.ensures c.killed_only_clean_up.ensures
+    c.args.names forms p made c.args.code c.in-Ok.texts same c.in-Ok.ensures

@@ -4,7 +4,7 @@ use Rattle.ql_expand.specs.View.{core_of, bounds_of}
 use Rattle.ql_expand.proofs.assemble.Maker.under.Given as goal
 
 abbrev pub invariant-loop-bind : goal.invariant-loop-bind
-invariant-loop-bind l = under l.self.at.0 (bounds_of l.before) (core_of l.whole) ≡ under l.self.at.0 (bounds_of l.fn.binds) (core_of l.fn.body)
+invariant-loop-bind l = under l.self.at.0 (bounds_of l.binds) (core_of l.body) ≡ under l.self.at.0 (bounds_of l.fn.binds) (core_of l.fn.body)
 
 abbrev pub decreases-loop-bind : goal.decreases-loop-bind
-decreases-loop-bind l = length l.before
+decreases-loop-bind l = length l.binds

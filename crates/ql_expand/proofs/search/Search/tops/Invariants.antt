@@ -1,10 +1,6 @@
-use Rattle.std.proofs.Common.{◌≡◌, drop}
-use Rattle.ql_base.specs.Refusal.{first_of}
-use Rattle.ql_forms.specs.View.{forms_of}
 use Rattle.ql_expand.specs.ExpandFault.{source_faults}
+use Rattle.ql_expand.specs.Searching.{Going}
 use Rattle.ql_expand.proofs.search.Search.tops.Given as goal
 
 abbrev pub invariant-loop-form : goal.invariant-loop-form
-invariant-loop-form l =
-    (l.self.names ≡ l.fn.self.names)
-    × (first_of l.self.first (source_faults l.fn.self.names.now (forms_of (drop l.form-index l.forms))) ≡ first_of l.fn.self.first (source_faults l.fn.self.names.now (forms_of l.forms)))
+invariant-loop-form l = Going l.fn.self l.self (source_faults l.fn.self.names.now) l.forms l.form-index

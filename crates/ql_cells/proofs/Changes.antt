@@ -1,0 +1,14 @@
+-- One word in place of another.
+use Rattle.std.proofs.Common.{◌≡◌, refl, ap, ℕ, zero, suc, ◌≤◌, List, [], ◌∷◌, length, arith, slice_set}
+use Rattle.ql_world.specs.World.{change}
+
+module _ {A : Type 0} where
+  pub put : (x : A) (xs : List A) (n : ℕ) → slice_set xs n x ≡ change (λ y. x) xs n
+  put x [] n = refl
+  put x (y ∷ xs) zero = refl
+  put x (y ∷ xs) (suc n) = ap (λ ys. y ∷ ys) (put x xs n)
+
+  pub past : (f : A → A) (xs : List A) (n : ℕ) → length xs ≤ n → xs ≡ change f xs n
+  past f [] n h = refl
+  past f (x ∷ xs) zero h = absurd (omega arith)
+  past f (x ∷ xs) (suc n) h = ap (λ ys. x ∷ ys) (past f xs n (omega arith))

@@ -1,0 +1,4 @@
+mod Changes
+mod Ordered
+mod Printed
+mod Reserved

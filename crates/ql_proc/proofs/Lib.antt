@@ -1,0 +1,11 @@
+pub mod Aims
+pub mod Binding
+pub mod Codes
+pub mod Futures
+pub mod Links
+pub mod Lists
+pub mod Tops
+pub mod Settles
+pub mod Stacks
+pub mod Unwinds
+pub mod Words

@@ -1,0 +1,10 @@
+use Rattle.ql_top.specs.Worker.{picked_of}
+use Rattle.ql_top.proofs.Working.{IsWorked, left}
+use Rattle.ql_top.proofs.worker.run.Given as goal
+
+-- it is a run of this code as far as one worker has brought it
+abbrev pub invariant-ticks : goal.invariant-ticks
+invariant-ticks l = IsWorked l.fn.code l.fn.names l.fn.limits l.host (picked_of l.last)
+
+abbrev pub decreases-ticks : goal.decreases-ticks
+decreases-ticks l = left l.host

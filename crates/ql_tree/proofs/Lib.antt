@@ -1,0 +1,4 @@
+mod Counts
+mod Kills
+mod Lists
+mod Walks

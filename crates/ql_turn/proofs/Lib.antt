@@ -1,0 +1,4 @@
+pub mod Prefixes
+pub mod Keeps
+pub mod Seats
+pub mod Appended

@@ -1,0 +1,6 @@
+pub mod Views
+pub mod Rule
+pub mod Told
+pub mod Seats
+pub mod Passes
+pub mod Appending
