@@ -21,7 +21,7 @@ use Rattle.ql_host.specs.declared.shared.Shared.{Shared}
 use Rattle.ql_host.specs.Awaited.{awaited, awaited_among}
 use Rattle.ql_host.specs.World.{world_of, Acts, IsAt}
 use Rattle.ql_host.proofs.Awaits.{op_awaits, op_replaced}
-use Rattle.ql_host.proofs.Ticks.{want_at, quiet_at, stops_at}
+use Rattle.ql_host.proofs.RowTicks.{want_at, quiet_at, stops_at}
 
 never_both : (b : Bool) → (b && false) ≡ true → ⊥
 never_both true e = absurd cc

@@ -29,7 +29,7 @@ use Rattle.ql_host.specs.declared.shared.Shared.{Shared}
 use Rattle.ql_host.specs.History.{History}
 use Rattle.ql_host.specs.World.{world_of, Acts, IsAt}
 use Rattle.ql_host.specs.Boxes.{HasBoxes, MeetsLimit}
-use Rattle.ql_host.proofs.Ticks.{stops_at}
+use Rattle.ql_host.proofs.RowTicks.{stops_at}
 use Rattle.ql_host.proofs.FrameRows.{IsTicked, variables_made, variables_full}
 
 -- fewer words are there too

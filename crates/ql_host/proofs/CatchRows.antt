@@ -33,7 +33,7 @@ use Rattle.ql_host.specs.declared.shared.Shared.{Shared}
 use Rattle.ql_host.specs.World.{world_of, IsAt}
 use Rattle.ql_host.specs.Acting.{TakesAll}
 use Rattle.ql_host.specs.Killing.{IsSameBut, owner_aimed}
-use Rattle.ql_host.proofs.Ticks.{row_tick, want_at, go_at}
+use Rattle.ql_host.proofs.RowTicks.{row_tick, want_at, go_at}
 use Rattle.ql_host.proofs.Rooms.{at_within}
 use Rattle.ql_host.proofs.Stepping.{process_found}
 

@@ -18,7 +18,7 @@ use Rattle.ql_code.specs.Code.{Instruction, Code}
 use Rattle.ql_code.specs.Machine.{Point, word, frame_of, slots_at, next_of, entry_by, op_want, settled, code_machine}
 use Rattle.ql_host.specs.declared.shared.Shared.{Shared}
 use Rattle.ql_host.specs.World.{world_of, Acts, IsAt}
-use Rattle.ql_host.proofs.Ticks.{acts_at, stops_at}
+use Rattle.ql_host.proofs.RowTicks.{acts_at, stops_at}
 
 module _ (code : Code) (names : List (List ℕ)) (limits : Limits) (p : ℕ) (r : Person) (old : Shared) (t : Point) (n mask : ℕ) (is : List ℕ) (l at : ℕ) (k : Closure)
     (h : IsAt code names limits p old r t (close n mask is l) at)

@@ -21,7 +21,7 @@ use Rattle.ql_host.specs.History.{History}
 use Rattle.ql_host.specs.declared.shared.Shared.{Shared}
 use Rattle.ql_host.specs.World.{world_of, Acts, IsAt}
 use Rattle.ql_host.specs.Boxes.{HasBoxes, MeetsLimit}
-use Rattle.ql_host.proofs.Ticks.{acts_at, quiet_at, stops_at}
+use Rattle.ql_host.proofs.RowTicks.{acts_at, quiet_at, stops_at}
 
 -- a tick of process p was told
 abbrev pub IsTicked : ℕ → History → History → Type 0

@@ -1,4 +1,4 @@
-pub mod Ticks
+pub mod RowTicks
 pub mod Rooms
 pub mod News
 pub mod Schedules
@@ -28,5 +28,7 @@ pub mod Killing
 pub mod CatchRows
 pub mod ServerRows
 pub mod Counts
+pub mod Works
+pub mod Commits
 pub mod Steps
 mod ReplyRows

@@ -39,7 +39,7 @@ use Rattle.ql_host.specs.Making.{ActsMaking}
 use Rattle.ql_host.proofs.Awaits.{calm_want, calm_go}
 use Rattle.ql_host.proofs.CallRows.{unmasked_length}
 use Rattle.ql_host.proofs.Making.{makes_at, makes_none, stops_making}
-use Rattle.ql_host.proofs.Ticks.{acts_at}
+use Rattle.ql_host.proofs.RowTicks.{acts_at}
 
 -- a process closure and its process are made
 pub server_added : (old : Shared) (p home k q : ℕ) (mode : Mode) (body : Closure) (eager : Bool) (turn : List ℕ) (threads : List Point) (t : Point)

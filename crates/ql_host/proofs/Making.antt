@@ -22,7 +22,7 @@ use Rattle.ql_host.specs.World.{world_of, Acts, IsAt}
 use Rattle.ql_host.specs.Acting.{TakesAll, IsKept}
 use Rattle.ql_host.specs.Room.{with_room}
 use Rattle.ql_host.specs.Making.{ActsMaking, Makes, AreKept}
-use Rattle.ql_host.proofs.Ticks.{row_tick, process_there, moved, want_at, go_at}
+use Rattle.ql_host.proofs.RowTicks.{row_tick, process_there, moved, want_at, go_at}
 
 module _ {A : Type 0} where
   pub set_append : (xs ys : List A) (i : ℕ) (x y : A) → slice_get xs i ≡ Some x → slice_set (xs ++ ys) i y ≡ slice_set xs i y ++ ys
@@ -45,7 +45,7 @@ module _ {A B : Type 0} (f : A → B) where
   map_append [] ys = refl
   map_append (x ∷ xs) ys = ap (λ zs. f x ∷ zs) (map_append xs ys)
 
-  map_set : (xs : List A) (i : ℕ) (y : A) → map f (slice_set xs i y) ≡ slice_set (map f xs) i (f y)
+  pub map_set : (xs : List A) (i : ℕ) (y : A) → map f (slice_set xs i y) ≡ slice_set (map f xs) i (f y)
   map_set [] i y = refl
   map_set (x ∷ xs) zero y = refl
   map_set (x ∷ xs) (suc i) y = ap (λ zs. f x ∷ zs) (map_set xs i y)

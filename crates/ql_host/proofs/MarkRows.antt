@@ -27,7 +27,7 @@ use Rattle.ql_host.specs.Awaited.{awaited}
 use Rattle.ql_host.specs.Marked.{catch_op}
 use Rattle.ql_host.specs.declared.shared.Shared.{Shared}
 use Rattle.ql_host.specs.World.{world_of, Acts, IsAt}
-use Rattle.ql_host.proofs.Ticks.{acts_at}
+use Rattle.ql_host.proofs.RowTicks.{acts_at}
 use Rattle.ql_host.proofs.Awaits.{calm_want, calm_go}
 
 home_or : (o : Option ℕ) (home : ℕ) → or_home o home ≡ unwrap_or o home

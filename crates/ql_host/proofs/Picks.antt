@@ -1,6 +1,6 @@
 -- Scans for processes that can step.
 use Rattle.std.proofs.Common.{◌≡◌, ◌<◌, ◌+◌, ◌-◌, refl, sym, ap, ◌∙◌, ℕ, zero, suc, nat_lt, Bool, true, false, List, [], ◌∷◌, length, drop, Option, Some, None, arith, ⊎_elim}
-use Rattle.std.specs.Prelude.{◌==◌, not, if◌then◌else◌, map, slice_get, is_some, is_none}
+use Rattle.std.specs.Prelude.{◌==◌, not, ◌&&◌, if◌then◌else◌, map, slice_get, is_some, is_none}
 use Rattle.std.specs.List.{list_all}
 use Rattle.std.proofs.lemmas.Bool.{cases_Bool}
 use Rattle.std.proofs.lemmas.List.{length-map}
@@ -18,7 +18,7 @@ use Rattle.ql_proc.specs.declared.process.Proc.{Proc}
 use Rattle.ql_proc.specs.Points.{point_of}
 use Rattle.ql_host.specs.declared.setting.Setting.{Setting}
 use Rattle.ql_host.specs.declared.shared.Shared.{Shared}
-use Rattle.ql_host.specs.Ready.{machine, world, steps_in, stop}
+use Rattle.ql_host.specs.Ready.{machine, world, is_free, free_in, stop}
 
 greatest_with : (p r : ℕ) (ps : List ℕ) → greatest ps ≡ Some r → greatest (p ∷ ps) ≡ Some r
 greatest_with p r [] e = absurd cc
@@ -32,9 +32,9 @@ first_is_some last (p ∷ ps) = either_is_some (least_above last (p ∷ ps)) p
     either_is_some None p = refl
     either_is_some (Some r) p = refl
 
-none_or_some : (o : Option ℕ) → is_none o ≡ not (is_some o)
+pub none_or_some : {A : Type 0} (o : Option A) → is_none o ≡ not (is_some o)
 none_or_some None = refl
-none_or_some (Some p) = refl
+none_or_some (Some x) = refl
 
 module _ (f : ℕ → Process Point → Bool) where
   -- all are above the number before the first
@@ -68,29 +68,29 @@ module _ (f : ℕ → Process Point → Bool) where
       (λ (t : f k q ≡ false). rw t (any_is (suc k) qs))
       (cases_Bool (f k q))
 
-module _ (s : Setting) (w : World Point Entry) where
-  abbrev pub ready_from : ℕ → List (Process Point) → List ℕ
-  ready_from k qs = those_from (λ p q. can_step (machine s) s.names.now s.limits p q w) k qs
+module _ (s : Setting) (w : World Point Entry) (away : List ℕ) where
+  abbrev pub free_from : ℕ → List (Process Point) → List ℕ
+  free_from k qs = those_from (is_free s w away) k qs
 
   -- those above a number are those that stand from there on
-  pub above_is : (last : ℕ) (qs : List (Process Point)) → least_above last (ready_from 1 qs) ≡ least (ready_from (suc last) (drop last qs))
-  above_is last qs = let e : 0 + last ≡ last = omega arith in rw e at (above_from (λ p q. can_step (machine s) s.names.now s.limits p q w) last 0 qs)
+  pub above_is : (last : ℕ) (qs : List (Process Point)) → least_above last (free_from 1 qs) ≡ least (free_from (suc last) (drop last qs))
+  above_is last qs = let e : 0 + last ≡ last = omega arith in rw e at (above_from (is_free s w away) last 0 qs)
 
-  pub not_ready : (n k : ℕ) (qs : List (Process Point)) → steps_in s w k (slice_get qs n) ≡ false → ready_from k (drop n qs) ≡ ready_from (suc k) (drop (suc n) qs)
-  not_ready zero k [] e = refl
-  not_ready zero k (q ∷ qs) e = rw e refl
-  not_ready (suc n) k [] e = refl
-  not_ready (suc n) k (q ∷ qs) e = not_ready n k qs e
+  pub not_free : (n k : ℕ) (qs : List (Process Point)) → free_in s w away k (slice_get qs n) ≡ false → free_from k (drop n qs) ≡ free_from (suc k) (drop (suc n) qs)
+  not_free zero k [] e = refl
+  not_free zero k (q ∷ qs) e = rw e refl
+  not_free (suc n) k [] e = refl
+  not_free (suc n) k (q ∷ qs) e = not_free n k qs e
 
-  pub least_is : (n k : ℕ) (qs : List (Process Point)) → steps_in s w k (slice_get qs n) ≡ true → least (ready_from k (drop n qs)) ≡ Some k
+  pub least_is : (n k : ℕ) (qs : List (Process Point)) → free_in s w away k (slice_get qs n) ≡ true → least (free_from k (drop n qs)) ≡ Some k
   least_is zero k [] e = absurd cc
   least_is zero k (q ∷ qs) e = rw e refl
   least_is (suc n) k [] e = absurd cc
   least_is (suc n) k (q ∷ qs) e = least_is n k qs e
 
   -- the last one that can step is the greatest
-  pub greatest_is : (n k : ℕ) (qs : List (Process Point)) → steps_in s w (k + n) (slice_get qs n) ≡ true → ready_from (suc (k + n)) (drop (suc n) qs) ≡ []
-      → greatest (ready_from k qs) ≡ Some (k + n)
+  pub greatest_is : (n k : ℕ) (qs : List (Process Point)) → free_in s w away (k + n) (slice_get qs n) ≡ true → free_from (suc (k + n)) (drop (suc n) qs) ≡ []
+      → greatest (free_from k qs) ≡ Some (k + n)
   greatest_is n k [] e f = absurd cc
   greatest_is zero k (q ∷ qs) e f =
       let z : k + 0 ≡ k = omega arith in
@@ -99,33 +99,43 @@ module _ (s : Setting) (w : World Point Entry) where
       rw (z, t, r) refl
   greatest_is (suc n) k (q ∷ qs) e f =
       let z : k + suc n ≡ suc k + n = omega arith in
-      let r : greatest (ready_from (suc k) qs) ≡ Some (suc k + n) = greatest_is n (suc k) qs (rw z at e) (rw z at f) in
+      let r : greatest (free_from (suc k) qs) ≡ Some (suc k + n) = greatest_is n (suc k) qs (rw z at e) (rw z at f) in
       rw z
       (⊎_elim
-      (λ (t : can_step (machine s) s.names.now s.limits k q w ≡ true). rw t (greatest_with k (suc k + n) (ready_from (suc k) qs) r))
-      (λ (t : can_step (machine s) s.names.now s.limits k q w ≡ false). rw t r)
-      (cases_Bool (can_step (machine s) s.names.now s.limits k q w)))
+      (λ (t : is_free s w away k q ≡ true). rw t (greatest_with k (suc k + n) (free_from (suc k) qs) r))
+      (λ (t : is_free s w away k q ≡ false). rw t r)
+      (cases_Bool (is_free s w away k q)))
 
-  pub greatest_at : (at : ℕ) (qs : List (Process Point)) → 0 < at → steps_in s w at (numbered qs at) ≡ true → ready_from (suc at) (drop at qs) ≡ [] → greatest (ready_from 1 qs) ≡ Some at
+  pub greatest_at : (at : ℕ) (qs : List (Process Point)) → 0 < at → free_in s w away at (numbered qs at) ≡ true → free_from (suc at) (drop at qs) ≡ [] → greatest (free_from 1 qs) ≡ Some at
   greatest_at zero qs h e f = absurd (omega (arith, h))
   greatest_at (suc n) qs h e f =
       let z : 1 + n ≡ suc n = omega arith in
       rw z at (greatest_is n 1 qs (rw z e) (rw z f))
 
-  pub not_ready_at : (at : ℕ) (qs : List (Process Point)) → 0 < at → steps_in s w at (numbered qs at) ≡ false → ready_from (suc at) (drop at qs) ≡ []
-      → ready_from (suc (at - 1)) (drop (at - 1) qs) ≡ []
-  not_ready_at zero qs h e f = absurd (omega (arith, h))
-  not_ready_at (suc n) qs h e f = let z : suc n - 1 ≡ n = omega arith in rw z (not_ready n (suc n) qs e ∙ f)
+  pub not_free_at : (at : ℕ) (qs : List (Process Point)) → 0 < at → free_in s w away at (numbered qs at) ≡ false → free_from (suc at) (drop at qs) ≡ []
+      → free_from (suc (at - 1)) (drop (at - 1) qs) ≡ []
+  not_free_at zero qs h e f = absurd (omega (arith, h))
+  not_free_at (suc n) qs h e f = let z : suc n - 1 ≡ n = omega arith in rw z (not_free n (suc n) qs e ∙ f)
 
   -- the first one, where numbers begin at 1
-  pub first_is : (qs : List (Process Point)) → least_above 0 (ready_from 1 qs) ≡ least (ready_from 1 qs)
+  pub first_is : (qs : List (Process Point)) → least_above 0 (free_from 1 qs) ≡ least (free_from 1 qs)
   first_is qs = above_is 0 qs
 
+module _ (s : Setting) (w : World Point Entry) where
+  all_home : (b : Bool) → (b && true) ≡ b
+  all_home true = refl
+  all_home false = refl
+
+  -- Where none is away, those at home are all.
+  any_home : (k : ℕ) (qs : List (Process Point)) → any_from (is_free s w []) k qs ≡ any_from (λ p q. can_step (machine s) s.names.now s.limits p q w) k qs
+  any_home k [] = refl
+  any_home k (q ∷ qs) = rw (all_home (can_step (machine s) s.names.now s.limits k q w), any_home (suc k) qs) refl
+
   -- the run is stuck where nothing is found from anywhere on
-  pub stuck_is : (last : ℕ) → is_none (first_of (least_above last (ready_from 1 w.procs)) (least (ready_from 1 w.procs))) ≡ is_stuck (machine s) s.names.now s.limits w
+  pub stuck_is : (last : ℕ) → is_none (first_of (least_above last (free_from s w [] 1 w.procs)) (least (free_from s w [] 1 w.procs))) ≡ is_stuck (machine s) s.names.now s.limits w
   stuck_is last =
-      none_or_some (first_of (least_above last (ready_from 1 w.procs)) (least (ready_from 1 w.procs)))
-      ∙ ap not (first_is_some last (ready_from 1 w.procs) ∙ sym (any_is (λ p q. can_step (machine s) s.names.now s.limits p q w) 1 w.procs))
+      none_or_some (first_of (least_above last (free_from s w [] 1 w.procs)) (least (free_from s w [] 1 w.procs)))
+      ∙ ap not (first_is_some last (free_from s w [] 1 w.procs) ∙ sym (any_is (is_free s w []) 1 w.procs) ∙ any_home 1 w.procs)
 
 module _ (s : Setting) (h : Shared) (ts : List Proc) (same : length ts ≡ length h.tree.persons) where
   all_ended : list_all (λ q. q.ended) (joined h.tree.persons (map point_of ts)) ≡ list_all (λ r. r.ended) h.tree.persons

@@ -28,7 +28,7 @@ use Rattle.ql_code.specs.Machine.{Point, word, words, operand_count, op_want, op
 use Rattle.ql_code.specs.Standing.{Made, IsMade, AreMade, IsAsked}
 use Rattle.ql_host.specs.declared.shared.Shared.{Shared}
 use Rattle.ql_host.specs.World.{world_of, made_in, Acts, IsAt}
-use Rattle.ql_host.proofs.Ticks.{acts_at, quiet_at, stops_at}
+use Rattle.ql_host.proofs.RowTicks.{acts_at, quiet_at, stops_at}
 
 -- where there is room at all there is room for one
 pub one_within : (n : ℕ) → (n ≡ 0 → ⊥) → leb 1 n ≡ true

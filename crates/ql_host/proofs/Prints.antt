@@ -19,7 +19,7 @@ use Rattle.ql_host.specs.declared.shared.Shared.{Shared}
 use Rattle.ql_host.specs.Awaited.{awaited}
 use Rattle.ql_host.specs.World.{world_of, Acts, IsAt}
 use Rattle.ql_host.proofs.Awaits.{calm_want, calm_go}
-use Rattle.ql_host.proofs.Ticks.{acts_at, stops_at}
+use Rattle.ql_host.proofs.RowTicks.{acts_at, stops_at}
 
 same_test : (a b : Bool) → (a ≡ true → b ≡ true) → (b ≡ true → a ≡ true) → a ≡ b
 same_test true b f g = sym (f refl)

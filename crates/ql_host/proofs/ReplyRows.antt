@@ -32,7 +32,7 @@ use Rattle.ql_host.specs.World.{world_of, Acts, IsAt}
 use Rattle.ql_host.proofs.CallRows.{unmasked_length}
 use Rattle.ql_host.proofs.Killing.{length_changed}
 use Rattle.ql_host.proofs.ServerRows.{its_row, replying, next_taken, next_server}
-use Rattle.ql_host.proofs.Ticks.{acts, stops_at, want_at}
+use Rattle.ql_host.proofs.RowTicks.{acts, stops_at, want_at}
 use Rattle.ql_host.proofs.TurnNumbers.{turn_futures}
 
 module _ {A : Type 0} where

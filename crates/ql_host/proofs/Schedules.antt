@@ -11,6 +11,7 @@ use Rattle.ql_world.specs.World.{World}
 use Rattle.ql_world.specs.Machine.{Machine}
 use Rattle.ql_world.specs.Tick.{tick}
 use Rattle.ql_world.specs.Run.{stop_of, run, story_of, told}
+use Rattle.ql_code.specs.LocalLaws.{with_ticks}
 use Rattle.ql_host.proofs.News.{is_turn, all_news}
 
 turns_append : (xs ys : List Event) → turns (xs ++ ys) ≡ turns xs ++ turns ys
@@ -73,6 +74,14 @@ tick_spelled p (e ∷ es) = new_turn p (e ∷ es)
 pub spelled : (p : ℕ) (new es : List Event) → all_news new ≡ true → turns (reverse (new ++ with_tick p es)) ≡ turns (reverse es) ++ p ∷ []
 spelled p new es h = news_alone new (with_tick p es) h ∙ tick_spelled p es
 
+-- and so are many ticks
+pub ticks_spelled : (p n : ℕ) (es : List Event) → turns (reverse (with_ticks p n es)) ≡ turns (reverse es) ++ replicate n p
+ticks_spelled p zero es = sym (append-nil (turns (reverse es)))
+ticks_spelled p (suc n) es =
+    ticks_spelled p n (with_tick p es)
+    ∙ ap (λ z. z ++ replicate n p) (tick_spelled p es)
+    ∙ append_assoc (turns (reverse es)) (p ∷ []) (replicate n p)
+
 pub stop_spelled : (why : Stop) (es : List Event) → turns (reverse (stopped why ∷ es)) ≡ turns (reverse es)
 stop_spelled why es = turned (stopped why) es ∙ append-nil (turns (reverse es))
 
@@ -86,6 +95,18 @@ module _ {P K : Type 0} (m : Machine P K) (names : List (List ℕ)) (limits : Li
     where
       on_first : ((z : World P K) → run m names limits z ps ≡ Some v → run m names limits z (ps ++ p ∷ []) ≡ Some u) → (b : Bool) (o : Option (World P K))
           → (if b then option_and_then (λ z. run m names limits z ps) o else None) ≡ Some v → (if b then option_and_then (λ z. run m names limits z (ps ++ p ∷ [])) o else None) ≡ Some u
+      on_first again false o e = absurd cc
+      on_first again true None e = absurd cc
+      on_first again true (Some z) e = again z e
+
+  -- a run along two schedules is one run after another
+  pub run_all : (ps rest : List ℕ) (w v : World P K) → run m names limits w ps ≡ Some v → run m names limits w (ps ++ rest) ≡ run m names limits v rest
+  run_all [] rest w v r = let same : w ≡ v = cc in ap (λ z. run m names limits z rest) same
+  run_all (q ∷ ps) rest w v r = on_first (λ z e. run_all ps rest z v e) (is_none (stop_of m names limits w)) (tick m names limits w q) r
+    where
+      on_first : ((z : World P K) → run m names limits z ps ≡ Some v → run m names limits z (ps ++ rest) ≡ run m names limits v rest) → (b : Bool) (o : Option (World P K))
+          → (if b then option_and_then (λ z. run m names limits z ps) o else None) ≡ Some v
+          → (if b then option_and_then (λ z. run m names limits z (ps ++ rest)) o else None) ≡ run m names limits v rest
       on_first again false o e = absurd cc
       on_first again true None e = absurd cc
       on_first again true (Some z) e = again z e

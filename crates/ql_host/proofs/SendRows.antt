@@ -26,7 +26,7 @@ use Rattle.ql_host.specs.Sending.{reply_for, value_for, with_reply_future, sent_
 use Rattle.ql_host.specs.declared.shared.Shared.{Shared}
 use Rattle.ql_host.specs.World.{world_of, Acts, IsAt}
 use Rattle.ql_host.proofs.CallRows.{fewer_words, function_there, unmasked_length, wanted_by, gone_by, awaited_by, back_to}
-use Rattle.ql_host.proofs.Ticks.{acts_at, stops_at}
+use Rattle.ql_host.proofs.RowTicks.{acts_at, stops_at}
 
 cases : (b : Bool) → (b ≡ true) ⊎ (b ≡ false)
 cases true = inl refl

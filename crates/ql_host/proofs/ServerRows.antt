@@ -33,7 +33,7 @@ use Rattle.ql_host.specs.World.{world_of, Acts, IsAt}
 use Rattle.ql_host.proofs.Rooms.{fit_still}
 use Rattle.ql_host.proofs.Making.{set_same}
 use Rattle.ql_host.proofs.Awaits.{calm_want}
-use Rattle.ql_host.proofs.Ticks.{acts, row_tick, process_there, want_at}
+use Rattle.ql_host.proofs.RowTicks.{acts, row_tick, process_there, want_at}
 
 -- what becomes of a closure whose oldest call is taken
 module _ (servers : List (ProcessClosure Entry)) (k : ℕ) (s : ProcessClosure Entry) (c : Call) (cs : List Call) (e : numbered servers k ≡ Some s) (g : s.queue ≡ c ∷ cs) where

@@ -30,7 +30,7 @@ use Rattle.ql_host.specs.Making.{ActsMaking}
 use Rattle.ql_host.proofs.Awaits.{calm_want, calm_go}
 use Rattle.ql_host.proofs.Children.{children_length}
 use Rattle.ql_host.proofs.Making.{makes_at, makes_none, stops_making}
-use Rattle.ql_host.proofs.Ticks.{acts_at, quiet_at}
+use Rattle.ql_host.proofs.RowTicks.{acts_at, quiet_at}
 
 module _ (code : Code) (names : List (List ℕ)) (limits : Limits) (p : ℕ) (r : Person) (old new : Shared) (t u : Point) where
   pub child_ended : (at f : ℕ) (w : Word) → IsAt code names limits p old r t join at → awaited join t.stack ≡ None → words 1 t.stack ≡ w ∷ [] → r.kind ≡ child f

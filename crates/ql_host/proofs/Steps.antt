@@ -37,7 +37,7 @@ use Rattle.ql_host.specs.Waiting.{is_there, served, has_call, has_current}
 use Rattle.ql_host.specs.Resting.{RestsAt, IsAnswering}
 use Rattle.ql_host.proofs.Awaits.{op_awaits, calm_want}
 use Rattle.ql_host.proofs.Stepping.{process_found, there_is}
-use Rattle.ql_host.proofs.Ticks.{want_at}
+use Rattle.ql_host.proofs.RowTicks.{want_at}
 use Rattle.ql_host.proofs.Making.{set_append, get_append, map_get, takes_all, makes_none, found, all_kept}
 
 -- an operation and an offset make an instruction
@@ -97,7 +97,7 @@ joined_few (r ∷ rs) (y ∷ xs) x e =
     let k : length rs ≤ length xs = joined_few rs xs x (tail_same (process_of_person r y) (process_of_person r y) (joined rs (xs ++ x ∷ [])) (joined rs xs) e) in
     omega (arith, k)
 
-set_long : {A : Type 0} (xs : List A) (i : ℕ) (y : A) → length (slice_set xs i y) ≡ length xs
+pub set_long : {A : Type 0} (xs : List A) (i : ℕ) (y : A) → length (slice_set xs i y) ≡ length xs
 set_long [] i y = refl
 set_long (x ∷ xs) zero y = refl
 set_long (x ∷ xs) (suc i) y = ap suc (set_long xs i y)

@@ -23,7 +23,7 @@ use Rattle.ql_host.specs.declared.shared.Shared.{Shared}
 use Rattle.ql_host.specs.World.{world_of, Acts}
 use Rattle.ql_host.specs.Room.{with_room}
 use Rattle.ql_host.specs.Unwinding.{IsUnwinding, landed}
-use Rattle.ql_host.proofs.Ticks.{acts}
+use Rattle.ql_host.proofs.RowTicks.{acts}
 
 -- the mark on top, and what is under it
 pub topmost : (st : List Item) (k : Mark) → mark_on st ≡ Some k → st ≡ mark k ∷ without_first 1 st

@@ -19,7 +19,7 @@ use Rattle.ql_host.specs.declared.shared.Shared.{Shared}
 use Rattle.ql_host.specs.Awaited.{awaited}
 use Rattle.ql_host.specs.World.{world_of, made_in, Acts, IsAt}
 use Rattle.ql_host.proofs.Awaits.{calm_want, calm_go}
-use Rattle.ql_host.proofs.Ticks.{acts_at, quiet_at, stops_at}
+use Rattle.ql_host.proofs.RowTicks.{acts_at, quiet_at, stops_at}
 
 -- an item within a list is there
 none_within : {A : Type 0} (xs : List A) (n : ℕ) → n < length xs → slice_get xs n ≡ None → ⊥

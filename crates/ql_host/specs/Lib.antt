@@ -1,6 +1,7 @@
 pub mod Awaited
 pub mod History
 pub mod Host
+pub mod Working
 pub mod World
 pub mod Room
 pub mod Acting

@@ -1,12 +1,12 @@
 -- What a process waits for, and whether it can step.
-use Rattle.std.specs.Prelude.{ℕ, Bool, false, List, map, Option, Some, None}
+use Rattle.std.specs.Prelude.{ℕ, Bool, false, not, ◌&&◌, List, map, Option, Some, None}
 use Rattle.ql_world.specs.World.{World, numbered}
 use Rattle.ql_world.specs.declared.world.Process.{Process}
 use Rattle.ql_world.specs.Machine.{Want, awaits, takes_call, replies, exits, leaves, ends, last_form, rests, Machine}
 use Rattle.ql_world.specs.Tick as ticks
 use Rattle.ql_world.specs.Tick.{has_queued, may_reply, landing}
 use Rattle.ql_world.specs.declared.event.Stop.{Stop}
-use Rattle.ql_world.specs.Run.{ready_ones, stop_of}
+use Rattle.ql_world.specs.Run.{is_in, those_from, ready_ones, stop_of}
 use Rattle.ql_code.specs.Machine.{Point, Entry, code_machine}
 use Rattle.ql_proc.specs.declared.process.Proc.{Proc}
 use Rattle.ql_proc.specs.Points.{point_of}
@@ -35,6 +35,15 @@ module _ (s : Setting) where
   steps_in w p None = false
   steps_in w p (Some q) = ticks.can_step machine s.names.now s.limits p q w
 
+  -- whether a process is at home and can step
+  abbrev pub is_free : World Point Entry → (away : List ℕ) → ℕ → Process Point → Bool
+  is_free w away p q = ticks.can_step machine s.names.now s.limits p q w && not (is_in p away)
+
+  -- the same, if it is there
+  abbrev pub free_in : World Point Entry → (away : List ℕ) → ℕ → Option (Process Point) → Bool
+  free_in w away p None = false
+  free_in w away p (Some q) = is_free w away p q
+
   module _ (h : Shared) (procs : List Proc) where
     abbrev pub world : World Point Entry
     world = world_of h (map point_of procs)
@@ -45,6 +54,10 @@ module _ (s : Setting) where
     -- the processes that can step, rising
     abbrev pub those_ready : List ℕ
     those_ready = ready_ones machine s.names.now s.limits world
+
+    -- those of them that are at home
+    abbrev pub those_free : (away : List ℕ) → List ℕ
+    those_free away = those_from (is_free world away) 1 world.procs
 
     -- why the run stops, if it does
     abbrev pub stop : Option Stop

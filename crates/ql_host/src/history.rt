@@ -2,9 +2,10 @@
 
 ghost use Rattle.std.specs.Prelude.{◌≡◌, ◌<◌, ◌≤◌, ◌+◌, ◌^◌, ◌∷◌, [], OnOk, reverse};
 ghost use Rattle.ql_world.specs.Event.{with_tick};
-ghost use Rattle.ql_code.specs.LocalLaws.{with_turn};
+ghost use Rattle.ql_code.specs.LocalLaws.{with_turn, with_ticks};
 ghost use Rattle.ql_host.specs.History.{IsNoTurn};
 
+use ql_code::laws::commits_are_ticks;
 use ql_journal::journal::Journal;
 use ql_world::event::{Event, Head};
 use std::alloc::{AllocError, Global};
@@ -66,6 +67,20 @@ impl History {
     {
         let _ = self.journal.push(Event::Turn { p, n: 1 });
         self.ticks += 1;
+    }
+
+    /// Tells so many ticks of process p.
+    pub fn tick_often(&mut self, p: u32, n: u64)
+        requires room { 0 < self.old.spare }
+        requires small { self.old.ticks + n < 2 ^ 63 }
+        ensures same { self.new ≡ record self.old { events = with_ticks p n self.old.events; ticks = self.old.ticks + n; spare = self.new.spare } }
+        ensures spare { self.old.spare ≤ self.new.spare + 1 }
+    {
+        commits_are_ticks();
+        if n > 0 {
+            let _ = self.journal.push(Event::Turn { p, n });
+            self.ticks += n;
+        }
     }
 
     /// Tells an event that is no turn.

@@ -8,9 +8,9 @@ ghost use Rattle.ql_code.specs.Machine.{Point};
 ghost use Rattle.ql_host.specs.World.{world_of};
 ghost use Rattle.ql_host.specs.Turns.{IsTurn};
 
-use crate::rows::boxes::{put_boxes, stored_words};
-use crate::rows::spawns::next_future;
 use crate::shared::Shared;
+use crate::ticks::boxes::{put_boxes, stored_words};
+use crate::ticks::spawns::next_future;
 use ql_future::futures::Futures;
 use ql_world::word::Word;
 use std::alloc::{AllocError, Global};

@@ -174,7 +174,7 @@ pub floor-within : (n : ℕ) (ms : List Marker) → Rises n ms → floor_of ms �
 floor-within n [] r = omega arith
 floor-within n (m ∷ ms) r = r.0
 
-rises-to : (n k : ℕ) (ms : List Marker) → floor_of ms ≤ k → Rises n ms → Rises k ms
+pub rises-to : (n k : ℕ) (ms : List Marker) → floor_of ms ≤ k → Rises n ms → Rises k ms
 rises-to n k [] h r = tt
 rises-to n k (m ∷ ms) h r = (h, r.1)
 
@@ -394,7 +394,7 @@ no-slots ss m ms h e =
     let l : length (slots_on (items_of ss (m ∷ ms))) ≡ length ss - m.height = length-slots_on ss (m ∷ ms) h in
     omega (arith, l, e, h)
 
-prepended : (zs ss : List Slot) (ms : List Marker) → floor_of ms ≤ length ss → items_of (zs ++ ss) ms ≡ map slot zs ++ items_of ss ms
+pub prepended : (zs ss : List Slot) (ms : List Marker) → floor_of ms ≤ length ss → items_of (zs ++ ss) ms ≡ map slot zs ++ items_of ss ms
 prepended [] ss ms h = refl
 prepended (z ∷ zs) ss ms h = rw (items-push z (zs ++ ss) ms (let l : length (zs ++ ss) ≡ length zs + length ss = length-append zs ss in omega (arith, h, l))) (ap (λ (x : List Item). slot z ∷ x) (prepended zs ss ms h))
 

@@ -1,5 +1,11 @@
 pub mod Binding
+pub mod Goes
+pub mod Inside
+pub mod Local
 pub mod Looks
+pub mod Loud
 pub mod Points
 pub mod Slots
 pub mod Stacked
+pub mod Windows
+pub mod Windowed

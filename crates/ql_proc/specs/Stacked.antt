@@ -1,5 +1,5 @@
 -- A stack: its items, and for how much more there is room.
-use Rattle.std.specs.Prelude.{◌≡◌, ◌≤◌, ℕ, suc, ◌-◌, if◌then◌else◌, List, [], ◌∷◌, ◌++◌, length, map, take, drop, Option, Some, None, Bool, true, false}
+use Rattle.std.specs.Prelude.{◌≡◌, ◌≤◌, ℕ, suc, ◌-◌, if◌then◌else◌, List, [], ◌∷◌, ◌++◌, length, map, take, drop, Option, Some, None, Bool, true, false, ◌||◌}
 use Rattle.ql_world.specs.declared.word.Slot.{Slot}
 use Rattle.ql_code.specs.declared.mark.Mark.{Mark}
 use Rattle.ql_world.specs.declared.world.Aim.{Aim}
@@ -64,6 +64,11 @@ marker_on ms k h b = record {
   cleaning = if is_cleaning k then suc (length ms) else up_to is_cleaning ms;
   catching = if is_catching k then suc (length ms) else up_to is_catching ms;
 }
+
+-- whether a frame stands on one of these marks
+abbrev pub frame_among : List Marker → Bool
+frame_among [] = false
+frame_among (m ∷ ms) = is_frame m.mark || frame_among ms
 
 pub record IsStack (ss : List Slot) (ms : List Marker) (f b : ℕ) : Type 0 where
   pub rises : Rises (length ss) ms

@@ -116,7 +116,7 @@ pub(crate) fn floor_under(marks: &[Marker]) -> usize
 }
 
 /// Whether a frame of slots stands on this mark.
-fn begins_frame(mark: Mark) -> bool
+pub(crate) fn begins_frame(mark: Mark) -> bool
     ensures { result ≡ is_frame mark }
 {
     match mark {

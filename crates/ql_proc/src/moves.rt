@@ -53,6 +53,15 @@ impl Proc {
         self.settle(code);
     }
 
+    /// Goes on at a place.
+    pub(crate) fn pass_to(&mut self, code: &Code, place: u32)
+        ensures point { point_of self.new ≡ settled code.now.instructions place self.old.stack.items }
+        ensures room { self.old.stack.room ≤ self.new.stack.room }
+    {
+        self.place = place;
+        self.settle(code);
+    }
+
     /// Takes the topmost item away, and goes on at a place.
     pub fn drop_to(&mut self, code: &Code, place: u32)
         ensures point { point_of self.new ≡ settled code.now.instructions place (without_first 1 self.old.stack.items) }
@@ -70,6 +79,18 @@ impl Proc {
         ensures room { self.old.stack.room ≤ self.new.stack.room }
     {
         self.stack.replace(1, Slot::Val(w));
+        self.place = place;
+        self.settle(code);
+    }
+
+    /// Puts a word in place of the topmost so many, and goes on at a place.
+    pub(crate) fn replace_at(&mut self, code: &Code, place: u32, count: usize, w: Word)
+        requires some { 0 < count }
+        requires words { HasWords count self.old.stack.items }
+        ensures point { point_of self.new ≡ settled code.now.instructions place (word w ∷ without_first count self.old.stack.items) }
+        ensures room { self.old.stack.room ≤ self.new.stack.room }
+    {
+        self.stack.replace(count, Slot::Val(w));
         self.place = place;
         self.settle(code);
     }
@@ -147,6 +168,19 @@ impl Proc {
         let back = next_place(code, self.place);
         self.stack.enter(count as usize, Mark::Returning(back));
         self.stack.bind(count as usize, mask, first);
+        self.place = place;
+        self.settle(code);
+    }
+
+    /// Calls the function at a place, which goes back to another, and whose parameters become the topmost so many words, of
+    /// which none is stored.
+    pub(crate) fn call_plain(&mut self, code: &Code, place: u32, count: usize, back: u32)
+        requires room { 0 < self.old.stack.room }
+        requires words { HasWords count self.old.stack.items }
+        ensures point { point_of self.new ≡ settled code.now.instructions place (push (words count self.old.stack.items) (mark (returning back) ∷ without_first count self.old.stack.items)) }
+        ensures room { self.old.stack.room ≤ self.new.stack.room + 1 }
+    {
+        self.stack.enter(count, Mark::Returning(back));
         self.place = place;
         self.settle(code);
     }

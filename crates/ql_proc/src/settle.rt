@@ -1,8 +1,11 @@
 //! The silent instructions, which no tick counts.
 
-ghost use Rattle.std.specs.Prelude.{◌≡◌, ◌<◌, ◌≤◌, ◌+◌, MatchOption, OnSome, None, Some, length, option_map, slice_get};
-ghost use Rattle.ql_code.specs.Machine.{settled};
+ghost use Rattle.std.specs.Prelude.{◌≡◌, ◌<◌, ◌≤◌, ◌+◌, List, MatchOption, IfSome, OnSome, None, Some, length, option_map, slice_get};
+ghost use Rattle.ql_code.specs.Machine.{Item, settled};
+ghost use Rattle.ql_code.specs.LocalPath.{settle_in};
+ghost use Rattle.ql_code.specs.declared.mark.State.TheVariants.{Running as running};
 ghost use Rattle.ql_proc.specs.Points.{point_of, Passes};
+ghost use Rattle.ql_proc.specs.Loud.{is_silent, is_loud};
 
 use crate::process::Proc;
 use ql_code::code::{Code, Op};
@@ -15,6 +18,18 @@ impl Proc {
         ensures room { self.old.stack.room ≤ self.new.stack.room }
     {
         self.state = State::Running;
+        if !is_loud(code, self.place) {
+            self.pass_silent(code);
+        }
+    }
+
+    /// Passes the silent instructions, from its place on, of a process that runs.
+    #[inline(never)]
+    fn pass_silent(&mut self, code: &Code)
+        requires { self.old.state ≡ running }
+        ensures point { point_of self.new ≡ settled code.now.instructions self.old.place self.old.stack.items }
+        ensures room { self.old.stack.room ≤ self.new.stack.room }
+    {
         let mut left = code.len();
         'silent: while left > 0 {
             let Some(op) = op_at(code, self.place) else {
@@ -83,7 +98,46 @@ impl Proc {
     }
 }
 
+/// Whether no silent instruction stands at this place.
+#[inline]
+pub(crate) fn is_loud(code: &Code, place: u32) -> bool
+    ensures { result ≡ is_loud (slice_get code.now.instructions place) }
+{
+    match op_at(code, place) {
+        Some(op) => !is_silent(op),
+        None => true,
+    }
+}
+
+/// Where a tick ends that goes on at this place, where that is told by the instructions alone: no silent one stands there,
+/// or a jump past all silent ones.
+#[inline]
+pub(crate) fn landing(code: &Code, place: u32) -> Option<u32>
+    ensures { IfSome result (λ last. (st : List Item) → settle_in code.now.instructions (length code.now.instructions) place st ≡ Some (last, st)) }
+{
+    let Some(op) = op_at(code, place) else {
+        return Some(place);
+    };
+    match op {
+        Op::Jump(to) if is_loud(code, *to) => Some(*to),
+        _ if is_silent(op) => None,
+        _ => Some(place),
+    }
+}
+
+/// Whether this instruction is silent, where it can pass.
+#[inline]
+fn is_silent(op: &Op) -> bool
+    ensures { result ≡ is_silent op.now }
+{
+    match op {
+        Op::Jump(_) | Op::Drop | Op::Slide(_) | Op::Join | Op::Touch(_) => true,
+        _ => false,
+    }
+}
+
 /// The instruction at this place.
+#[inline]
 pub(crate) fn op_at(code: &Code, place: u32) -> Option<&Op>
     ensures found { MatchOption result (slice_get code.now.instructions place ≡ None) (λ op. option_map (λ i. i.op) (slice_get code.now.instructions place) ≡ Some op.now) }
     ensures within { OnSome result (place < 65535) }

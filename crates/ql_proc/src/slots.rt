@@ -104,7 +104,7 @@ pub(crate) fn future_above(slots: &[Slot], floor: usize, count: usize) -> Option
 }
 
 /// The leftmost future among the last so many words.
-fn future_in(slots: &[Slot], count: usize) -> Option<u32>
+pub(crate) fn future_in(slots: &[Slot], count: usize) -> Option<u32>
     ensures { result ≡ first_future (words count (map slot (reverse slots.now))) }
 {
     let mut found = None;

@@ -1,6 +1,6 @@
 //! The stack of a process.
 
-ghost use Rattle.std.specs.Prelude.{◌≡◌, [], ◌∷◌, ◌<◌, ◌≤◌, ◌-◌, ◌+◌, ◌++◌, ◌==◌, reverse, suc, true, false, is_some, Some, slice_get, length, map, replicate, take, List, IfOk, OnOk, IsOk, MatchOption, option_to_list, drop as without_first, vec_len, vec_capacity};
+ghost use Rattle.std.specs.Prelude.{◌≡◌, [], ◌∷◌, ◌<◌, ◌≤◌, ◌-◌, ◌+◌, ◌++◌, ◌==◌, reverse, suc, true, false, is_some, Some, slice_get, length, map, replicate, take, List, IfOk, OnOk, IsOk, MatchOption, option_and_then, option_to_list, drop as without_first, vec_len, vec_capacity};
 ghost use Rattle.ql_world.specs.declared.word.Slot.{Slot};
 ghost use Rattle.ql_code.specs.declared.mark.Mark.{Mark};
 ghost use Rattle.ql_world.specs.declared.word.Word.TheVariants.{Fut as future};
@@ -9,6 +9,7 @@ ghost use Rattle.ql_world.specs.World.{numbers};
 ghost use Rattle.ql_world.specs.Tick.{slots_of, words_boxed};
 ghost use Rattle.ql_code.specs.Code.{unmasked};
 ghost use Rattle.ql_code.specs.Machine.{Item, slot, mark, word, words, push_slots, push, frame_of, slot_at, slots_at, or_nil, top_mark, below_mark, unwind, cleanups_on, innermost_on, aim_cleanup, slid};
+ghost use Rattle.ql_code.specs.LocalPath.{whole_frame, word_in};
 ghost use Rattle.ql_proc.specs.Slots.{slots_on, without_mark, is_call, HasWords};
 ghost use Rattle.ql_proc.specs.Looks.{mark_on, mark_under};
 ghost use Rattle.ql_proc.specs.Stacked.{items_of, floor_of, IsStack};
@@ -44,12 +45,12 @@ pub struct Marker {
 /// Slots and marks. Contracts see it as `Stacked`.
 #[derive(Drop)]
 pub struct Stack {
-    slots: Vec<Slot>,
-    marks: Vec<Marker>,
+    pub(crate) slots: Vec<Slot>,
+    pub(crate) marks: Vec<Marker>,
     /// How many slots stand under the topmost mark.
-    floor: usize,
+    pub(crate) floor: usize,
     /// How many slots stand under the topmost frame.
-    base: usize,
+    pub(crate) base: usize,
 }
 
 impl Model for Stack {
@@ -214,6 +215,15 @@ impl Stack {
     {
         self.base = drop_item(&mut self.slots, &mut self.marks, self.base);
         self.floor = floor_under(&self.marks);
+    }
+
+    /// Takes the topmost word away.
+    pub(crate) fn drop_word(&mut self)
+        requires { HasWords 1 self.old.items }
+        ensures items { self.new.items ≡ without_first 1 self.old.items }
+        ensures room { self.old.room ≤ self.new.room }
+    {
+        cut(&mut self.slots);
     }
 
     /// Takes the topmost two items away.
@@ -493,6 +503,29 @@ impl Stack {
         ensures { reverse result.now ≡ frame_of (without_first 1 self.now.items) }
     {
         lower(&self.slots, self.base)
+    }
+
+    /// Whether the bottom of the topmost frame is there. It is where slots stand under it, which is told fastest.
+    fn is_frame_there(&self) -> bool
+        ensures { result ≡ is_some (whole_frame self.now.items) }
+    {
+        if self.base > 0 {
+            return true;
+        }
+        self.has_frame()
+    }
+
+    /// The word in the slot at this place of the topmost frame, where the bottom of that is there.
+    pub(crate) fn local_word(&self, at: u32) -> Option<Word>
+        ensures { result ≡ option_and_then (λ ss. word_in (slot_at ss at)) (whole_frame self.now.items) }
+    {
+        if !self.is_frame_there() {
+            return None;
+        }
+        match self.local(at) {
+            Some(Slot::Val(w)) => Some(w),
+            _ => None,
+        }
     }
 
     /// The slots at these places of the topmost frame, with nil where there is none.

@@ -3,8 +3,8 @@ use Rattle.ql_top.proofs.Working.{IsWorked, left}
 use Rattle.ql_top.proofs.worker.run.Given as goal
 
 -- it is a run of this code as far as one worker has brought it
-abbrev pub invariant-ticks : goal.invariant-ticks
-invariant-ticks l = IsWorked l.fn.code l.fn.names l.fn.limits l.host (picked_of l.last)
+abbrev pub invariant-rounds : goal.invariant-rounds
+invariant-rounds l = IsWorked l.fn.code l.fn.names l.fn.limits l.host (picked_of l.last)
 
-abbrev pub decreases-ticks : goal.decreases-ticks
-decreases-ticks l = left l.host
+abbrev pub decreases-rounds : goal.decreases-rounds
+decreases-rounds l = left l.host

@@ -1,0 +1,25 @@
+use Rattle.std.proofs.Common.{[]}
+use Rattle.ql_proc.specs.Points.{point_of}
+use Rattle.ql_code.specs.declared.code.Op.TheVariants as ops
+use Rattle.ql_host.specs.declared.shared.Shared.{Shared}
+use Rattle.ql_host.proofs.Rooms.{at_still}
+use Rattle.ql_host.proofs.Making.{made_from_room}
+use Rattle.ql_host.proofs.MakeRows.{lambda_full}
+use Rattle.ql_host.proofs.ticks.makes.too_many.Goals as goal
+
+pub returns-clause-makes : goal.returns-clause-makes
+returns-clause-makes c =
+    let m : Shared = c.take_room.new.shared in
+    let s = c.args.s in
+    let p = c.args.p in
+    let old : Shared = c.args.shared.now in
+    let new : Shared = c.stop.new.shared in
+    let t = point_of c.args.proc.now in
+    made_from_room s.code.now s.names.now s.limits p c.args.person old m c.take_room.ensures.shared new t (point_of c.take_room.new.proc) []
+    (rw (c.take_room.ensures.proc)
+    (lambda_full s.code.now s.names.now s.limits p c.args.person m t c.args.params c.args.mask c.args.slots.now c.args.next c.args.at c.args.x
+    (at_still s.code.now s.names.now s.limits p c.args.person old m c.take_room.ensures.shared t (ops.Qlambda c.args.params c.args.mask c.args.slots.now c.args.next) c.args.at c.requires.stands)
+    c.requires.calm c.requires.top
+    new c.requires.spawns
+    (rw (c.take_room.ensures.shared) c.requires.many)
+    c.stop.ensures.marked))

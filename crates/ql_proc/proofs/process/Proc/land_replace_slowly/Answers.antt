@@ -1,0 +1,10 @@
+use Rattle.std.proofs.Common.{sym, ◌∙◌, ◌∷◌, drop}
+use Rattle.ql_code.specs.Machine.{word}
+use Rattle.ql_proc.specs.Points.{point_of}
+use Rattle.ql_proc.proofs.Ticks
+use Rattle.ql_proc.proofs.process.Proc.land_replace_slowly.Goals as goal
+
+pub returns-clause-takes : goal.returns-clause-takes
+returns-clause-takes c =
+    let st = word c.args.w ∷ drop c.args.count c.args.self.now.stack.items in
+    Ticks.landed c.args.code.now.instructions c.args.place st (point_of c.replace_at.new.self) (sym c.stays_with.ensures ∙ c.if-not-stays_with.false) c.replace_at.ensures.point
