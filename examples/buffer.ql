@@ -1,0 +1,33 @@
+; A bounded buffer. Its process closure holds at most two items; 'put answers nil where it is full and
+; 'get where it is empty, and then one asks again.
+(defun make-buffer ()
+  (let ((items nil) (count 0))
+    (qlambda t (wish item)
+      (cond ((eq wish 'put)
+             (when (< count 2)
+               (setq items (append-one items item))
+               (setq count (+ count 1))))
+            (items
+             (let ((first items))
+               (setq items (cdr items))
+               (setq count (- count 1))
+               first))))))
+(defun append-one (items item)
+  (if (null items)
+      (list item)
+      (cons (car items) (append-one (cdr items) item))))
+(defun produce (buffer next last)
+  (cond ((> next last) 'produced)
+        ((funcall buffer 'put next) (produce buffer (+ next 1) last))
+        (t (produce buffer next last))))
+(defun consume (buffer wanted sum)
+  (if (= wanted 0)
+      sum
+      (let ((got (funcall buffer 'get nil)))
+        (if got
+            (consume buffer (- wanted 1) (+ sum (print (car got))))
+            (consume buffer wanted sum)))))
+(let ((buffer (make-buffer)))
+  (qlet t ((made (produce buffer 1 5)) (sum (consume buffer 5 0)))
+    (print made)
+    (print sum)))

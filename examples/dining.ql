@@ -1,0 +1,26 @@
+; Dining philosophers. A fork is a process closure, so it answers one wish at a time: 'take is t for the
+; first who asks and nil while the fork is taken, and 'drop puts it back.
+(defun make-fork ()
+  (let ((taken nil))
+    (qlambda t (wish)
+      (cond ((eq wish 'drop) (setq taken nil))
+            (taken nil)
+            (t (setq taken t))))))
+(defun take (fork)
+  (unless (funcall fork 'take) (take fork)))
+; Every philosopher takes the fork with the lower number first, so they can't all wait for each other.
+; The value is the number of meals.
+(defun dine (lower higher meals)
+  (cond ((= meals 0) 0)
+        (t (take lower)
+           (take higher)
+           (funcall higher 'drop)
+           (funcall lower 'drop)
+           (+ 1 (dine lower higher (- meals 1))))))
+(let ((f1 (make-fork)) (f2 (make-fork)) (f3 (make-fork)) (f4 (make-fork)) (f5 (make-fork)))
+  (qlet t ((a (dine f1 f2 10))
+           (b (dine f2 f3 10))
+           (c (dine f3 f4 10))
+           (d (dine f4 f5 10))
+           (e (dine f1 f5 10)))
+    (print (list a b c d e))))
