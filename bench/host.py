@@ -12,10 +12,12 @@ processes and queues, isn't compared. It is no part of the gate.
                                       2,000,000 ticks and 1,000,000 cells
     bench/host.py PROGRAM --raised    on greater ones, by a PROGRAM with limits of 20,000,000 ticks and 4,000,000 cells
     bench/host.py --main              prints a main for such a program
+    bench/host.py --proof             prints its proof
     --runs N                          the best of N runs; 5 where it isn't given
 
 The words of the program have no options for limits yet. So the greater sizes need a program of their own: in a copy of
-the repository outside of it, make a crate beside crates/ql with the main that `--main` prints, add the line
+the repository outside of it, make a crate ql_raised beside crates/ql, with the main that `--main` prints as src/main.rt and
+the proof that `--proof` prints as proofs/told/Answers.antt, add the line
 
     ql_raised: ql_base ql_host ql_forms ql_top
 
@@ -42,6 +44,7 @@ use ql_base::standard::{StdSink, StdSource};
 use ql_host::told::Told;
 use ql_top::accept::accept;
 use ql_top::error_line::write_error_line;
+use ql_top::laws::names_can_be_printed;
 use ql_top::reading::read_text;
 use ql_top::status::{Status, code_of, status_of};
 use ql_top::worker::run;
@@ -64,10 +67,23 @@ fn told(rt: &HostRuntime) -> Result<Told, Status> {
     let mut limits = Limits::usual();
     limits.budget = 20_000_000;
     limits.cells = 4_000_000;
+    names_can_be_printed();
     let text = read_text(rt.alloc(), &mut StdSource::new(rt.stdin()))?;
     let code = accept(rt.alloc(), &text)?;
     run(rt.alloc(), code, text.names, limits).map_err(|_| Status::NoMemory)
 }
+"""
+
+# that the names of a text can be printed
+RAISED_PROOF = """use Rattle.ql_forms.specs.View.{forms_of}
+use Rattle.ql_raised.proofs.told.Goals as goal
+
+pub run-requires-clause-names : goal.run-requires-clause-names
+run-requires-clause-names c =
+    let b = c.in_ok-text.ensures.bytes in
+    let r = b.is_read in
+    c.names_can_be_printed.ensures b.taken c.in_ok-text.text.names (forms_of c.in_ok-text.text.forms)
+    (record { spelling = r.spelling; spells = r.spells; numbered = r.numbered; no_fault = r.no_fault })
 """
 
 # A program is a template in which @ stands for a size, and `says` gives what it prints for a size.
@@ -222,10 +238,11 @@ def main():
     parser.add_argument("program", nargs="?", metavar="PROGRAM")
     parser.add_argument("--raised", action="store_true")
     parser.add_argument("--main", action="store_true")
+    parser.add_argument("--proof", action="store_true")
     parser.add_argument("--runs", type=int, default=5)
     words = parser.parse_args()
-    if words.main:
-        print(RAISED_MAIN, end="")
+    if words.main or words.proof:
+        print(RAISED_MAIN if words.main else RAISED_PROOF, end="")
         return 0
     if not words.program:
         parser.error("no PROGRAM")
