@@ -3,46 +3,42 @@
 /// The name of standard input as a source, and of a journal that keeps nothing.
 const STANDARD: &str = "-";
 
-/// An end that can't be opened.
+/// Where the source is read from.
 #[derive(Clone, Copy)]
-pub enum Unopened<'a> {
-    Source(&'a str),
-    Journal(&'a str),
+pub enum Input<'a> {
+    /// Standard input.
+    Standard,
+    /// The file of this name.
+    File(&'a str),
+    /// Nowhere: the command reads no source.
+    Nothing,
 }
 
-impl<'a> Unopened<'a> {
-    /// The name that was given for it.
-    pub fn name(&self) -> &'a str {
-        match *self {
-            Unopened::Source(name) => name,
-            Unopened::Journal(name) => name,
-        }
-    }
-
-    /// The exit code of the program.
-    pub fn code(&self) -> u8 {
-        match self {
-            Unopened::Source(_) => 8,
-            Unopened::Journal(_) => 9,
-        }
-    }
-}
-
-/// The first end that the command needs and that can't be opened. No files can be opened yet.
-pub fn closed_end<'a>(words: &[&'a str]) -> Option<Unopened<'a>> {
+/// The source that the command needs.
+pub fn source_of<'a>(words: &[&'a str]) -> Input<'a> {
     match words {
-        [source, journal, command, ..] => closed_by(source, journal, command),
-        _ => None,
+        [source, _, command, ..] if is_among(command, &["check", "list", "run", "show"]) => {
+            if *source == STANDARD {
+                Input::Standard
+            } else {
+                Input::File(source)
+            }
+        }
+        _ => Input::Nothing,
     }
 }
 
-fn closed_by<'a>(source: &'a str, journal: &'a str, command: &str) -> Option<Unopened<'a>> {
-    if is_among(command, &["check", "list", "run", "show"]) && source != STANDARD {
-        Some(Unopened::Source(source))
-    } else if command == "run" && journal != STANDARD {
-        Some(Unopened::Journal(journal))
-    } else {
-        None
+/// The name of the file to which the command writes its journal, if it does.
+pub fn journal_of<'a>(words: &[&'a str]) -> Option<&'a str> {
+    match words {
+        [_, journal, command, ..] if is_among(command, &["run", "trial"]) => {
+            if *journal == STANDARD {
+                None
+            } else {
+                Some(journal)
+            }
+        }
+        _ => None,
     }
 }
 

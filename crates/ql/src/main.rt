@@ -1,9 +1,11 @@
-//! The program `ql SOURCE JOURNAL COMMAND`: it opens the ends, makes the top call and ends with the
-//! exit code of its status. A line that standard error doesn't take changes no exit code.
+//! The program `ql SOURCE JOURNAL COMMAND`: it opens the files that the command needs, the source first,
+//! makes the top call and ends with the exit code of its status. A line that standard error doesn't take changes no exit code.
 #![tactic(auto)]
 
 mod ends;
 
+use ends::Input;
+use ql_base::outside::{Sink, Source};
 use ql_base::standard::{StdSink, StdSource};
 use ql_base::sure::{SureSink, SureSource};
 use ql_top::error_line::write_error_line;
@@ -11,6 +13,7 @@ use ql_top::status::{Status, code_of};
 use ql_top::top::one;
 use std::alloc::{AllocError, Global};
 use std::env;
+use std::fs::File;
 use std::io::ErrorKind;
 use std::process::ExitCode;
 
@@ -51,24 +54,52 @@ fn ended_early(rt: &HostRuntime, status: Status) -> ExitCode {
     ExitCode::from(code_of(&status))
 }
 
+// Opens the source that the command needs, and goes on with it.
 fn call(rt: &HostRuntime, words: &[&str]) -> ExitCode {
-    if let Some(end) = ends::closed_end(words) {
-        let _ = eprintln!(rt; "ql: cannot open {}", end.name());
-        return ExitCode::from(end.code());
+    match ends::source_of(words) {
+        Input::Standard => read_from(rt, words, &mut StdSource::new(rt.stdin())),
+        Input::File(name) => match File::open(rt, name) {
+            Ok(file) => read_from(rt, words, &mut StdSource::new(file)),
+            Err(_) => unopened(rt, name, code_of(&Status::ReadFault)),
+        },
+        Input::Nothing => read_from(rt, words, &mut SureSource::new(Vec::new(rt.alloc()))),
     }
-    let mut source = StdSource::new(rt.stdin());
+}
+
+// Makes the journal that the command writes, and goes on with it. A file that exists is replaced.
+fn read_from<S: Source>(rt: &HostRuntime, words: &[&str], source: &mut S) -> ExitCode {
+    match ends::journal_of(words) {
+        Some(name) => match File::create(rt, name) {
+            Ok(file) => write_to(rt, words, source, &mut StdSink::new(file)),
+            Err(_) => unopened(rt, name, code_of(&Status::WriteFault)),
+        },
+        None => write_to(rt, words, source, &mut SureSink::new()),
+    }
+}
+
+fn write_to<S: Source, J: Sink>(
+    rt: &HostRuntime,
+    words: &[&str],
+    source: &mut S,
+    journal: &mut J,
+) -> ExitCode {
     let mut book = SureSource::new(Vec::new(rt.alloc()));
     let mut out = StdSink::new(rt.stdout());
-    let mut journal = SureSink::new();
     let mut err = StdSink::new(rt.stderr());
     let ended = one(
         rt.alloc(),
         ends::asked(words),
-        &mut source,
+        source,
         &mut book,
         &mut out,
-        &mut journal,
+        journal,
         &mut err,
     );
     ExitCode::from(code_of(&ended.status))
+}
+
+// There is no call: an end can't be opened.
+fn unopened(rt: &HostRuntime, name: &str, code: u8) -> ExitCode {
+    let _ = eprintln!(rt; "ql: cannot open {name}");
+    ExitCode::from(code)
 }

@@ -138,7 +138,7 @@ none_next v b t h e u i m k =
 
 -- the head
 
-abbrev head_line : Head → List ℕ
+abbrev pub head_line : Head → List ℕ
 head_line h = codes "qlisp 2" ++ and_numbers (h.budget ∷ h.cells ∷ h.procs ∷ h.output ∷ [])
 
 head_shape : (h : Head) (r : List ℕ) → head_text (Some h) ++ r ≡ head_line h ++ 10 ∷ r
@@ -147,7 +147,7 @@ head_shape h r = append_assoc (head_line h) (10 ∷ []) r
 count_again : (n : ℕ) (r : List ℕ) → IsCount n → StopsAt 32 r → field most_count (32 ∷ decimal n ++ r) ≡ Some (n, r)
 count_again n r h s = field_again most_count n r h h s
 
-head_in_again : (h : Head) → IsHead (Some h) → head_in (head_line h) ≡ Some h
+pub head_in_again : (h : Head) → IsHead (Some h) → head_in (head_line h) ≡ Some h
 head_in_again h i =
     let (b, c, p, o) = i in
     rw (count_again h.budget (32 ∷ decimal h.cells ++ (32 ∷ decimal h.procs ++ (32 ∷ decimal h.output ++ []))) b refl, count_again h.cells (32 ∷ decimal h.procs ++ (32 ∷ decimal h.output ++ [])) c refl, count_again h.procs (32 ∷ decimal h.output ++ []) p refl, count_again h.output [] o tt) refl

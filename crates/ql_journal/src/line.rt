@@ -30,7 +30,7 @@ fn two_ids(text: &[u8], word: &[u8]) -> Option<(u32, u32)>
 }
 
 /// A word, a process and a number.
-fn id_and_count(text: &[u8], word: &[u8]) -> Option<(u32, u64)>
+pub fn id_and_count(text: &[u8], word: &[u8]) -> Option<(u32, u64)>
     ensures { result ≡ id_and_count word.now text.now }
 {
     let text = strip(text, word)?;
@@ -354,7 +354,7 @@ fn four_counts(text: &[u8]) -> Option<(u64, u64, u64, u64, &[u8])>
 }
 
 /// The head of a line.
-fn head_in(text: &[u8]) -> Option<Head>
+pub fn head_in(text: &[u8]) -> Option<Head>
     ensures { result ≡ head_in text.now }
 {
     let text = strip(text, b"qlisp 2")?;

@@ -1,12 +1,15 @@
 //! The reader of journals.
 
-ghost use Rattle.std.specs.Prelude.{◌≡◌, ◌⊎◌, None, Some};
+ghost use Rattle.std.specs.Prelude.{◌≡◌, ◌⊎◌, ℕ, IfSome, None, Some};
+ghost use Rattle.ql_world.specs.declared.event.Head.{Head as AnyHead};
 ghost use Rattle.ql_journal.specs.Grammar.{Verdict, Judges, has_texts, head_lines};
+ghost use Rattle.ql_journal.specs.Single.{IsTurnLine, IsHeadLine};
 ghost use Rattle.ql_journal.specs.Verdicts.{verdict_of, JudgesEvents};
 
 use crate::journal::Journal;
-use crate::line::{head_of, next_event};
+use crate::line::{head_in, head_of, id_and_count, next_event};
 use crate::order::Before;
+use ql_base::numbers::Pid;
 use ql_world::event::Head;
 use std::alloc::{AllocError, AllocFailed, Global};
 use thiserror::Error;
@@ -44,6 +47,23 @@ pub fn read_journal(alloc: Global, bytes: &[u8]) -> Result<Journal, JournalRefus
         Some((head, rest)) => read_events(alloc, Some(head), rest),
         None => read_events(alloc, None, bytes),
     }
+}
+
+/// The process and the ticks of a turn line, which is given without its line feed.
+pub fn read_turn(line: &[u8]) -> Option<(Pid, u64)>
+    ensures is { IfSome result (λ x. IsTurnLine line.now x.0.0 x.1) }
+    ensures none { result ≡ None → (p n : ℕ) → ¬ IsTurnLine line.now p n }
+{
+    let (p, n) = id_and_count(line, b"turn")?;
+    if n == 0 { None } else { Some((Pid(p), n)) }
+}
+
+/// The limits of a head line, which is given without its line feed.
+pub fn read_head(line: &[u8]) -> Option<Head>
+    ensures is { IfSome result (λ h. IsHeadLine line.now h) }
+    ensures none { result ≡ None → (h : AnyHead) → ¬ IsHeadLine line.now h }
+{
+    head_in(line)
 }
 
 /// Whether a journal with this head has texts.

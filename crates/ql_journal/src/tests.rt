@@ -1,8 +1,9 @@
 //! Journals from outside, read and written again, and texts that are none.
 
 use crate::journal::Journal;
-use crate::read::{JournalRefusal, read_journal};
-use crate::write::write_journal;
+use crate::read::{JournalRefusal, read_head, read_journal, read_turn};
+use crate::write::{write_journal, write_line};
+use ql_base::numbers::Pid;
 use ql_world::event::{Event, Head, Stop};
 use ql_world::short::Short;
 
@@ -90,4 +91,58 @@ fn grows(rt: HostRuntime) {
     write_journal(rt.alloc(), &journal, &mut text).expect(&rt, "memory");
     let want = b"qlisp 2 2000000 1000000 65535 16777216\nturn 2 5\nend 2 ok x\nstop done\n";
     assert!(&rt; text.as_slice() == want.as_slice(), "another text");
+}
+
+#[test]
+fn writes_line_by_line(rt: HostRuntime) {
+    let journal = match read_journal(rt.alloc(), HANDED) {
+        Ok(journal) => journal,
+        Err(_) => panic!(&rt; "not read"),
+    };
+    let mut with = Vec::from_slice(rt.alloc(), b"qlisp 2 2000000 1000000 65535 16777216\n").expect(
+        &rt, "memory",
+    );
+    let mut without = Vec::new(rt.alloc());
+    for event in journal.events() {
+        write_line(rt.alloc(), event, true, &mut with).expect(&rt, "memory");
+        write_line(rt.alloc(), event, false, &mut without).expect(&rt, "memory");
+    }
+    assert!(&rt; with.as_slice() == HANDED, "another text");
+    let plain =
+        b"turn 1 4\nspawn 1 2 0 eager 1\nspawn 1 3 0 call 2\nsend 1 1 1\ntake 2 1 1\nturn 2 5\nreply 2 1 1\nprotect 2 1\nbegin 2 1\nfinish 2 1\nend 3 ok\nend 1 ok\nstop error incleanup 1 18446744073709551615\n";
+    assert!(&rt; without.as_slice() == plain.as_slice(), "another text");
+}
+
+#[test]
+fn reads_a_line_by_itself(rt: HostRuntime) {
+    assert_eq!(&rt;
+        read_turn(b"turn 7 18446744073709551615"),
+        Some((Pid(7), u64::MAX))
+    );
+    let others: [&[u8]; 7] = [
+        b"",
+        b"turn 7 0",
+        b"turn 7 18446744073709551616",
+        b"turn 4294967296 1",
+        b"turn 7 1\n",
+        b"turn 07 1",
+        b"take 7 1 1",
+    ];
+    for line in others {
+        assert!(&rt; read_turn(line).is_none(), "no turn line");
+    }
+    let head = Head {
+        budget: 1,
+        cells: 0,
+        procs: u64::MAX,
+        output: 4,
+    };
+    assert_eq!(&rt;
+        read_head(b"qlisp 2 1 0 18446744073709551615 4"),
+        Some(head)
+    );
+    let others: [&[u8]; 3] = [b"qlisp 1 1 0 3 4", b"qlisp 2 1 0 3", b"qlisp 2 1 0 3 4 "];
+    for line in others {
+        assert!(&rt; read_head(line).is_none(), "no head line");
+    }
 }

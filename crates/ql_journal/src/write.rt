@@ -1,7 +1,8 @@
 //! The text of a journal.
 
-ghost use Rattle.std.specs.Prelude.{◌≡◌, ◌++◌, OnOk, OnErr};
+ghost use Rattle.std.specs.Prelude.{◌≡◌, ◌++◌, ◌∷◌, [], if◌then◌else◌, None, OnOk, OnErr};
 ghost use Rattle.ql_world.specs.Text.{and_numbers, and_text, mode_text, stop_text, fault_name, limit_name, line_of, lines_of, head_text, journal_text};
+ghost use Rattle.ql_journal.specs.Single.{as_told};
 
 use crate::journal::Journal;
 use itoa::Buffer;
@@ -22,6 +23,23 @@ pub fn write_journal(alloc: Global, journal: &Journal, to: &mut Vec<u8>) -> Resu
     to.extend_from_slice(&text)
 }
 
+/// Appends the one line of an event, with its line feed. It has the event's text, if any, where `texts` is true. An `Err`
+/// leaves `to` as it was.
+pub fn write_line(
+    alloc: Global,
+    event: &Event,
+    texts: bool,
+    to: &mut Vec<u8>,
+) -> Result<(), AllocError>
+    ensures ok { OnOk result (to.new.items ≡ to.old.items ++ lines_of (as_told texts event.now ∷ [])) }
+    ensures err { OnErr result (to.new.items ≡ to.old.items) }
+{
+    let mut line = Vec::new(alloc);
+    put_line(&mut line, event, texts)?;
+    line.extend_from_slice(b"\n")?;
+    to.extend_from_slice(&line)
+}
+
 /// Appends the head line, if any.
 fn put_head(to: &mut Vec<u8>, head: Option<Head>) -> Result<(), AllocError>
     ensures { OnOk result (to.new.items ≡ to.old.items ++ head_text head) }
@@ -38,15 +56,15 @@ fn put_lines(to: &mut Vec<u8>, events: &[Event]) -> Result<(), AllocError>
     ensures { OnOk result (to.new.items ≡ to.old.items ++ lines_of events.now) }
 {
     for event in events {
-        put_line(to, event)?;
+        put_line(to, event, true)?;
         to.extend_from_slice(b"\n")?;
     }
     Ok(())
 }
 
-/// Appends the line of an event, without its line feed.
-fn put_line(to: &mut Vec<u8>, event: &Event) -> Result<(), AllocError>
-    ensures { OnOk result (to.new.items ≡ to.old.items ++ line_of event.now) }
+/// Appends the line of an event, without its line feed, and with its text where `texts` is true.
+fn put_line(to: &mut Vec<u8>, event: &Event, texts: bool) -> Result<(), AllocError>
+    ensures { OnOk result (to.new.items ≡ to.old.items ++ line_of (as_told texts event.now)) }
 {
     match event {
         Event::Turn { p, n } => put(to, b"turn", &[u64::from(*p), *n]),
@@ -68,12 +86,12 @@ fn put_line(to: &mut Vec<u8>, event: &Event) -> Result<(), AllocError>
         Event::Take { q, k, n } => put(to, b"take", &[u64::from(*q), u64::from(*k), *n]),
         Event::Reply { q, k, n, text } => {
             put(to, b"reply", &[u64::from(*q), u64::from(*k), *n])?;
-            put_text(to, text)
+            put_text(to, text, texts)
         }
         Event::EndOk { p, text } => {
             put(to, b"end", &[u64::from(*p)])?;
             to.extend_from_slice(b" ok")?;
-            put_text(to, text)
+            put_text(to, text, texts)
         }
         Event::EndKilled { p } => {
             put(to, b"end", &[u64::from(*p)])?;
@@ -94,8 +112,8 @@ fn put(to: &mut Vec<u8>, word: &[u8], numbers: &[u64]) -> Result<(), AllocError>
     put_numbers(to, numbers)
 }
 
-/// Appends numbers, each behind a space.
-fn put_numbers(to: &mut Vec<u8>, numbers: &[u64]) -> Result<(), AllocError>
+/// Appends numbers, each behind a space. An `Err` is want of memory; some of the text may stand then.
+pub fn put_numbers(to: &mut Vec<u8>, numbers: &[u64]) -> Result<(), AllocError>
     ensures { OnOk result (to.new.items ≡ to.old.items ++ and_numbers numbers.now) }
 {
     let mut buffer = Buffer::new();
@@ -106,16 +124,16 @@ fn put_numbers(to: &mut Vec<u8>, numbers: &[u64]) -> Result<(), AllocError>
     Ok(())
 }
 
-/// Appends a text behind a space, if any.
-fn put_text(to: &mut Vec<u8>, text: &Option<Short>) -> Result<(), AllocError>
-    ensures { OnOk result (to.new.items ≡ to.old.items ++ and_text text.now) }
+/// Appends a text behind a space, if there is one and texts are told.
+fn put_text(to: &mut Vec<u8>, text: &Option<Short>, texts: bool) -> Result<(), AllocError>
+    ensures { OnOk result (to.new.items ≡ to.old.items ++ and_text (if texts then text.now else None)) }
 {
     match text {
-        Some(short) => {
+        Some(short) if texts => {
             to.extend_from_slice(b" ")?;
             to.extend_from_slice(short.bytes())
         }
-        None => Ok(()),
+        _ => Ok(()),
     }
 }
 
@@ -130,8 +148,8 @@ fn put_mode(to: &mut Vec<u8>, mode: Mode) -> Result<(), AllocError>
     }
 }
 
-/// Appends why a run stopped.
-fn put_stop(to: &mut Vec<u8>, stop: Stop) -> Result<(), AllocError>
+/// Appends why a run stopped, behind a space. An `Err` is want of memory; some of the text may stand then.
+pub fn put_stop(to: &mut Vec<u8>, stop: Stop) -> Result<(), AllocError>
     ensures { OnOk result (to.new.items ≡ to.old.items ++ stop_text stop) }
 {
     match stop {

@@ -6,15 +6,18 @@ use Rattle.ql_forms.specs.View.{forms_of}
 use Rattle.ql_forms.specs.declared.text.Text.{Text}
 use Rattle.ql_expand.specs.Core.{Program}
 use Rattle.ql_world.specs.declared.event.Stop.{Stop}
+use Rattle.ql_world.specs.declared.event.Stop.TheVariants.{Done as done}
 use Rattle.ql_host.specs.Host.{Told}
 use Rattle.ql_read.specs.TextFault.{MayFollow, IsRead}
 use Rattle.ql_top.specs.Acts.{told_in, stop_in, output_in, lines_in, HasTexts, Gives, AnswersSome}
 use Rattle.ql_top.specs.Reading.{Takes, IsAtEnd, ReadsAll, IsFaulty, StopsReading}
-use Rattle.ql_top.specs.Top.{IsText, Unfit, Refusal, of_text, of_forms, IsRefused, IsSource, Writes, of_run, of_show, of_check, of_list, Written, IsDone, EndsBy, Answers, AnswersTaken, IsSilent, Tells}
+use Rattle.ql_top.specs.Top.{IsText, Unfit, Refusal, of_text, of_forms, IsRefused, IsSource, Writes, of_run, of_trial, of_show, of_check, of_list, HasSource, ReadsSource, IsSourceOf, AnswersTrial, IsGenerated, Written, IsDone, EndsBy, Answers, AnswersTaken, IsSilent, Tells}
 use Rattle.ql_top.specs.declared.top.Texts.{Texts}
 use Rattle.ql_top.specs.declared.words.Command.{Command}
 use Rattle.ql_top.specs.declared.words.Command.TheVariants as commands
-use Rattle.ql_top.specs.declared.words.Command.TheVariants.{Run, Show, Check}
+use Rattle.ql_top.specs.declared.words.Command.TheVariants.{Run, Show, Check, Gen, Trial}
+use Rattle.ql_top.specs.declared.words.Options.{Options}
+use Rattle.ql_vectors.specs.GenText.{gen_text}
 use Rattle.ql_top.specs.declared.status.Ended.{Ended}
 use Rattle.ql_top.specs.declared.status.Status.{Status}
 use Rattle.ql_top.specs.declared.status.Status.TheVariants.{Done, Refused, Words, Fault, Budget, Deadlock, Limit, NoMemory, ReadFault, WriteFault}
@@ -166,7 +169,9 @@ tells_texts command texts ended names forms h t loud = written_by command (told_
   where
     written_by : (command : Command) (told : Option Told) (stop : Stop) (output lines : List ℕ) → Writes command names forms h.program told stop output lines
         → ended.told ≡ told → Tells (Some command) ended.status ended.told
-    written_by Run told stop output lines (of_run r) e = (λ none. let bad : None ≡ Some r.run = sym none ∙ e ∙ r.is_told in absurd cc, λ silent. absurd (loud silent))
+    written_by (Run options) told stop output lines (of_run r) e = (λ none. let bad : None ≡ Some r.run = sym none ∙ e ∙ r.is_told in absurd cc, λ silent. absurd (loud silent))
+    written_by (Trial seed size options) told stop output lines (of_trial r) e = (λ none. let bad : None ≡ Some r.run = sym none ∙ e ∙ r.is_told in absurd cc, λ silent. absurd (loud silent))
+    written_by (Gen seed size) told stop output lines h e = elim h [ ]
     written_by Show told stop output lines of_show e = e
     written_by Check told stop output lines of_check e = e
     written_by commands.List told stop output lines of_list e = e
@@ -188,6 +193,40 @@ pub taken_answer : (command : Command) (ended : Ended) (left left' o o' j j' : O
     → AnswersTaken command ended left left' o o' j j'
 taken_answer command ended left left' o o' j j' a = record { taken = a.taken; takes = a.takes; answers = rw append-nil at (a.answers [] (inr refl)) }
 
+-- A command answers by the bytes of its source, some of which may be left.
+abbrev pub Ends : Command → Ended → (b : List ℕ) → (o o' j j' : Option (List ℕ)) → Type 0
+Ends command ended b o o' j j' = (left : Option (List ℕ)) × Answers command ended b left o o' j j'
+
+module _ (ended : Ended) (left left' o o' j j' : Option (List ℕ)) where
+  abbrev Reads : Command → Type 0
+  Reads command = ReadsSource command → AnswersSome command ended left left' o o' j j'
+
+  abbrev Tries : Command → Type 0
+  Tries command = (seed size : ℕ) (options : Options) → command ≡ Trial seed size options → AnswersTrial seed size options ended o o' j j'
+
+  -- for the source that the command has
+  pub ends_for : (command : Command) → Reads command → Tries command → (b : List ℕ) → IsSourceOf command left b → Ends command ended b o o' j j'
+  ends_for Check reads tries b e = (left', told_answer Check ended b left left' o o' j j' e (reads tt))
+  ends_for Show reads tries b e = (left', told_answer Show ended b left left' o o' j j' e (reads tt))
+  ends_for commands.List reads tries b e = (left', told_answer commands.List ended b left left' o o' j j' e (reads tt))
+  ends_for (Run options) reads tries b e = (left', told_answer (Run options) ended b left left' o o' j j' e (reads tt))
+  ends_for (Gen seed size) reads tries b e = absurd e
+  ends_for (Trial seed size options) reads tries b e =
+      let t = tries seed size options refl in
+      (t.left, subst (λ x. Answers (Trial seed size options) ended x t.left o o' j j') (sym e) t.answers)
+
+  taken_ends : (command : Command) → AnswersSome command ended left left' o o' j j' → (b : List ℕ) × Ends command ended b o o' j j'
+  taken_ends command a = let t = taken_answer command ended left left' o o' j j' a in (t.taken, (Some [], t.answers))
+
+  -- for some source, where the command has one
+  pub ends_somehow : (command : Command) → HasSource command → Reads command → Tries command → (b : List ℕ) × Ends command ended b o o' j j'
+  ends_somehow Check has reads tries = taken_ends Check (reads tt)
+  ends_somehow Show has reads tries = taken_ends Show (reads tt)
+  ends_somehow commands.List has reads tries = taken_ends commands.List (reads tt)
+  ends_somehow (Run options) has reads tries = taken_ends (Run options) (reads tt)
+  ends_somehow (Gen seed size) has reads tries = absurd has
+  ends_somehow (Trial seed size options) has reads tries = let t = tries seed size options refl in (gen_text seed size, (t.left, t.answers))
+
 -- what must be refused is refused, unless memory or the source fails
 abbrev RefusedOrFailed : Status → (kind at : ℕ) → Type 0
 RefusedOrFailed status kind at = (status ≡ Refused kind at) ⊎ ((status ≡ NoMemory) ⊎ (status ≡ ReadFault))
@@ -207,3 +246,17 @@ must_refuse Budget command ended b left o o' j j' kind at h f = absurd (h.accept
 must_refuse Deadlock command ended b left o o' j j' kind at h f = absurd (h.accepted kind at f)
 must_refuse (Limit k) command ended b left o o' j j' kind at h f = absurd (h.accepted kind at f)
 must_refuse WriteFault command ended b left o o' j j' kind at h f = absurd (h.accepted kind at f)
+
+-- the generated text is written as any other
+pub is_generated : (status : Status) (seed size : ℕ) (text : List ℕ) (o o' j j' : Option (List ℕ)) → text ≡ gen_text seed size
+    → Written status done text [] o o' j j' → IsGenerated status seed size o o' j j'
+is_generated Done seed size text o o' j j' e w = subst (λ t. Written Done done t [] o o' j j') e w
+is_generated (Refused kind at) seed size text o o' j j' e w = subst (λ t. Written (Refused kind at) done t [] o o' j j') e w
+is_generated Words seed size text o o' j j' e w = subst (λ t. Written Words done t [] o o' j j') e w
+is_generated (Fault kind p at) seed size text o o' j j' e w = subst (λ t. Written (Fault kind p at) done t [] o o' j j') e w
+is_generated Budget seed size text o o' j j' e w = subst (λ t. Written Budget done t [] o o' j j') e w
+is_generated Deadlock seed size text o o' j j' e w = subst (λ t. Written Deadlock done t [] o o' j j') e w
+is_generated (Limit kind) seed size text o o' j j' e w = subst (λ t. Written (Limit kind) done t [] o o' j j') e w
+is_generated NoMemory seed size text o o' j j' e w = tt
+is_generated ReadFault seed size text o o' j j' e w = subst (λ t. Written ReadFault done t [] o o' j j') e w
+is_generated WriteFault seed size text o o' j j' e w = subst (λ t. Written WriteFault done t [] o o' j j') e w

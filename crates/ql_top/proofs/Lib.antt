@@ -1,7 +1,12 @@
 mod Answering
+mod Asking
 mod Examples
+mod Numbers
 mod Parts
 mod Pieces
+mod Plain
+mod PlainEnds
+mod PlainOptions
 mod Planned
 mod Rounds
 mod Printable

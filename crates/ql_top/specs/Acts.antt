@@ -1,6 +1,6 @@
 -- What the parts of a call say to each other.
 use Rattle.std.specs.Prelude.{◌≡◌, ◌⊎◌, ◌++◌, ℕ, true, List, [], Option, Some, None, Result, Ok, Err}
-use Rattle.ql_base.specs.Limits.{usual}
+use Rattle.ql_base.specs.declared.limits.Limits.{Limits}
 use Rattle.ql_forms.specs.Form.{Forms}
 use Rattle.ql_expand.specs.Core.{Program}
 use Rattle.ql_world.specs.Event.{turns}
@@ -14,7 +14,7 @@ use Rattle.ql_compile.specs.Compile.{compiled}
 use Rattle.ql_top.specs.Reading.{Takes}
 use Rattle.ql_top.specs.Top.{Answers, Unfit, Makes, Writes}
 use Rattle.ql_top.specs.declared.top.Texts.{Texts}
-use Rattle.ql_top.specs.declared.top.Texts.TheVariants.{Ran, Alone}
+use Rattle.ql_top.specs.declared.top.Texts.TheVariants.{Ran, Tried, Alone}
 use Rattle.ql_top.specs.declared.words.Command.{Command}
 use Rattle.ql_top.specs.declared.status.Ended.{Ended}
 use Rattle.ql_top.specs.declared.status.Status.{Status}
@@ -35,32 +35,32 @@ Accepts (Err status) names forms = Prim.⊥
 
 abbrev pub told_in : Texts → Option Told
 told_in (Ran told lines) = Some told
+told_in (Tried told output lines) = Some told
 told_in (Alone output) = None
 
 abbrev pub stop_in : Texts → Stop
 stop_in (Ran told lines) = told.story.stop
+stop_in (Tried told output lines) = told.story.stop
 stop_in (Alone output) = done
 
 abbrev pub output_in : Texts → List ℕ
 output_in (Ran told lines) = told.story.output
+output_in (Tried told output lines) = output.items
 output_in (Alone output) = output.items
 
 abbrev pub lines_in : Texts → List ℕ
 lines_in (Ran told lines) = lines.items
+lines_in (Tried told output lines) = lines.items
 lines_in (Alone output) = []
 
--- they are of a run of this code by one worker, under the usual limits
-pub record IsRunOf (code : Code) (names : List (List ℕ)) (told : Told) (lines : List ℕ) : Type 0 where
+-- they are of a run of this code by one worker, under these limits
+pub record IsRunOf (code : Code) (names : List (List ℕ)) (limits : Limits) (told : Told) (lines : List ℕ) : Type 0 where
   pub code_is : told.code ≡ code
   pub names_are : told.names ≡ names
-  pub limits_are : told.limits ≡ usual
+  pub limits_are : told.limits ≡ limits
   pub is_told : IsTold told
-  pub planned : code_planned names code usual (turns told.story.journal.events) ≡ true
+  pub planned : code_planned names code limits (turns told.story.journal.events) ≡ true
   pub lines_are : lines ≡ journal_text told.story.journal
-
-abbrev pub HasRun : Code → List (List ℕ) → Texts → Type 0
-HasRun code names (Ran told lines) = IsRunOf code names told lines.items
-HasRun code names (Alone output) = Prim.⊥
 
 -- what a command writes for these forms, which make a program
 pub record HasTexts (command : Command) (texts : Texts) (names : List (List ℕ)) (forms : Forms) : Type 0 where

@@ -1,8 +1,11 @@
 pub mod Acts
+pub mod CommandLine
 pub mod ErrorLine
+pub mod PlainWords
 pub mod Reading
 pub mod Run
 pub mod Status
+pub mod Summary
 pub mod Texts
 pub mod Top
 pub mod Words

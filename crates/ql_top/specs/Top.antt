@@ -1,6 +1,6 @@
 -- What a call of the top answers.
 use Rattle.std.specs.Prelude.{◌≡◌, ◌⊎◌, ◌↔◌, ◌≤◌, ◌+◌, ◌++◌, ℕ, List, [], length, Option, Some, None, codes}
-use Rattle.ql_base.specs.Limits.{usual}
+use Rattle.ql_base.specs.declared.limits.Limits.{Limits}
 use Rattle.ql_base.specs.Outside.{HasRisen, Appends, AppendsFront}
 use Rattle.ql_forms.specs.Form.{Forms}
 use Rattle.ql_forms.specs.FormText.{forms_text}
@@ -15,6 +15,7 @@ use Rattle.ql_world.specs.Text.{journal_text}
 use Rattle.ql_world.specs.declared.event.Stop as stop
 use Rattle.ql_world.specs.declared.event.Stop.TheVariants as stops
 use Rattle.ql_code.specs.Listing.{listing}
+use Rattle.ql_vectors.specs.GenText.{gen_text}
 use Rattle.ql_host.specs.Host.{Told}
 use Rattle.ql_compile.specs.Compile.{compiled}
 use Rattle.ql_compile.specs.Laws.{IsTooLong}
@@ -23,9 +24,11 @@ use Rattle.ql_top.specs.ErrorLine.{error_line}
 use Rattle.ql_top.specs.Reading.{Takes, IsCutShort}
 use Rattle.ql_top.specs.Run.{IsRun}
 use Rattle.ql_top.specs.Status.{status_of}
+use Rattle.ql_top.specs.Summary.{summary}
 use Rattle.ql_top.specs.declared.words.Command.{Command}
 use Rattle.ql_top.specs.declared.words.Command.TheVariants as commands
-use Rattle.ql_top.specs.declared.words.Command.TheVariants.{Run, Show, Check}
+use Rattle.ql_top.specs.declared.words.Command.TheVariants.{Run, Show, Check, Gen, Trial}
+use Rattle.ql_top.specs.declared.words.Options.{Options}
 use Rattle.ql_top.specs.declared.status.Ended.{Ended}
 use Rattle.ql_top.specs.declared.status.Status.{Status}
 use Rattle.ql_top.specs.declared.status.Status.TheVariants.{Refused, Words, NoMemory, ReadFault, WriteFault}
@@ -78,15 +81,15 @@ pub record IsSource (bytes : List ℕ) (program : Program) : Type 0 where
   pub is_text : IsText bytes names forms
   pub makes : Makes names forms program
 
--- A host has told of the run of the program's code, under the usual limits, and these are its stop, its output and the text
--- of its journal.
-pub record IsTold (names : List (List ℕ)) (program : Program) (told : Option Told) (stop : stop.Stop) (output lines : List ℕ) : Type 0 where
+-- A host has told of the run of the program's code, under these limits, and these are its stop, its output and the text of
+-- its journal.
+pub record IsTold (names : List (List ℕ)) (program : Program) (limits : Limits) (told : Option Told) (stop : stop.Stop) (output lines : List ℕ) : Type 0 where
   pub run : Told
   pub is_told : told ≡ Some run
   pub code_is : run.code ≡ compiled program
   pub names_are : run.names ≡ names
-  pub limits_are : run.limits ≡ usual
-  pub is_run : IsRun names program usual run.story
+  pub limits_are : run.limits ≡ limits
+  pub is_run : IsRun names program limits run.story
   pub stop_is : stop ≡ run.story.stop
   pub output_is : output ≡ run.story.output
   pub lines_are : lines ≡ journal_text run.story.journal
@@ -95,11 +98,14 @@ pub record IsTold (names : List (List ℕ)) (program : Program) (told : Option T
 abbrev pub approval : List ℕ
 approval = codes "ok\n"
 
--- The texts of a command, for the output and for the journal, and the stop by which it ends where they are written. Of the
--- run alone a host has told.
+-- The texts of a command, for the output and for the journal, and the stop by which it ends where they are written. Of a run
+-- and a trial alone a host has told. A trial writes its summary after what was printed.
 pub data Writes : Command → List (List ℕ) → Forms → Program → Option Told → stop.Stop → (output lines : List ℕ) → Type 0 where
-  of_run : {names : List (List ℕ)} {forms : Forms} {program : Program} {told : Option Told} {stop : stop.Stop} {output lines : List ℕ}
-      → IsTold names program told stop output lines → Writes Run names forms program told stop output lines
+  of_run : {options : Options} {names : List (List ℕ)} {forms : Forms} {program : Program} {told : Option Told} {stop : stop.Stop} {output lines : List ℕ}
+      → IsTold names program options.limits told stop output lines → Writes (Run options) names forms program told stop output lines
+  of_trial : {seed size : ℕ} {options : Options} {names : List (List ℕ)} {forms : Forms} {program : Program} {told : Option Told} {stop : stop.Stop}
+      {printed lines : List ℕ} → IsTold names program options.limits told stop printed lines
+      → Writes (Trial seed size options) names forms program told stop (printed ++ summary seed size stop) lines
   of_show : {names : List (List ℕ)} {forms : Forms} {program : Program} → Writes Show names forms program None stops.Done (forms_text (spelled_forms names forms)) []
   of_check : {names : List (List ℕ)} {forms : Forms} {program : Program} → Writes Check names forms program None stops.Done approval []
   of_list : {names : List (List ℕ)} {forms : Forms} {program : Program} → Writes commands.List names forms program None stops.Done (listing names (compiled program)) []
@@ -136,7 +142,7 @@ EndsBy NoMemory command ended bytes left out out' journal journal' = Prim.Unit {
 EndsBy ReadFault command ended bytes left out out' journal journal' = IsCutShort (Some bytes) left
 EndsBy status command ended bytes left out out' journal journal' = IsDone command ended bytes left out out' journal journal'
 
--- what a command answers for a source of these bytes, some of which may be left
+-- what a command that makes something of a source answers for these bytes, some of which may be left
 abbrev pub Answers : Command → Ended → (bytes : List ℕ) → (left out out' journal journal' : Option (List ℕ)) → Type 0
 Answers command ended bytes left out out' journal journal' = EndsBy ended.status command ended bytes left out out' journal journal'
 
@@ -145,6 +151,46 @@ pub record AnswersTaken (command : Command) (ended : Ended) (left left' out out'
   pub taken : List ℕ
   pub takes : Takes taken left left'
   pub answers : Answers command ended taken (Some []) out out' journal journal'
+
+-- a command that reads the source of the call
+abbrev pub ReadsSource : Command → Type 0
+ReadsSource (Gen seed size) = Prim.⊥
+ReadsSource (Trial seed size options) = Prim.⊥
+ReadsSource command = Prim.Unit {0}
+
+-- a command that makes something of a source
+abbrev pub HasSource : Command → Type 0
+HasSource (Gen seed size) = Prim.⊥
+HasSource command = Prim.Unit {0}
+
+-- The source of a command: what is left in the source of the call, or in a trial the text that is generated.
+abbrev pub IsSourceOf : Command → (left : Option (List ℕ)) → (bytes : List ℕ) → Type 0
+IsSourceOf (Gen seed size) left bytes = Prim.⊥
+IsSourceOf (Trial seed size options) left bytes = bytes ≡ gen_text seed size
+IsSourceOf command left bytes = left ≡ Some bytes
+
+-- A trial answers as a command on the text that is generated, of which it may have read less than all.
+pub record AnswersTrial (seed size : ℕ) (options : Options) (ended : Ended) (out out' journal journal' : Option (List ℕ)) : Type 0 where
+  pub left : Option (List ℕ)
+  pub answers : Answers (Trial seed size options) ended (gen_text seed size) left out out' journal journal'
+
+-- the generated text is written, unless memory fails
+abbrev pub IsGenerated : Status → (seed size : ℕ) → (out out' journal journal' : Option (List ℕ)) → Type 0
+IsGenerated NoMemory seed size out out' journal journal' = Prim.Unit {0}
+IsGenerated status seed size out out' journal journal' = Written status stops.Done (gen_text seed size) [] out out' journal journal'
+
+-- The words ask for nothing that reads the source of the call.
+abbrev pub LeavesSource : Option Command → Type 0
+LeavesSource None = Prim.Unit {0}
+LeavesSource (Some (Gen seed size)) = Prim.Unit {0}
+LeavesSource (Some (Trial seed size options)) = Prim.Unit {0}
+LeavesSource command = Prim.⊥
+
+-- the words ask for nothing that runs a program
+abbrev pub LeavesJournal : Option Command → Type 0
+LeavesJournal (Some (Run options)) = Prim.⊥
+LeavesJournal (Some (Trial seed size options)) = Prim.⊥
+LeavesJournal command = Prim.Unit {0}
 
 -- The line of a status was written, or a front of it before a call failed.
 abbrev pub SaysStatus : Status → (err err' : Option (List ℕ)) → (faults faults' : ℕ) → Type 0
@@ -163,9 +209,10 @@ IsSilent NoMemory = Prim.Unit {0}
 IsSilent ReadFault = Prim.Unit {0}
 IsSilent status = Prim.⊥
 
--- Of a run a host has told, unless output and journal hold nothing new. Of any other command none has.
+-- Of a run and of a trial a host has told, unless output and journal hold nothing new. Of any other command none has.
 abbrev pub Tells : Option Command → Status → Option Told → Type 0
-Tells (Some Run) status told = (told ≡ None) ↔ IsSilent status
+Tells (Some (Run options)) status told = (told ≡ None) ↔ IsSilent status
+Tells (Some (Trial seed size options)) status told = (told ≡ None) ↔ IsSilent status
 Tells command status told = told ≡ None
 
 -- The counts of faults of output and journal rise just where the answer is a write fault: one of them has risen then.

@@ -1,4 +1,4 @@
-//! What is true of sources, of what refuses them and of their runs, as functions that do nothing.
+//! What is true of words, of sources, of what refuses them and of their runs, as functions that do nothing.
 
 ghost use Rattle.std.specs.Prelude.{◌≡◌, ℕ, List, Some, true};
 ghost use Rattle.ql_base.specs.declared.limits.Limits.{Limits};
@@ -7,12 +7,20 @@ ghost use Rattle.ql_expand.specs.Core.{Program};
 ghost use Rattle.ql_world.specs.Run.{Story};
 ghost use Rattle.ql_host.specs.Host.{AreNames};
 ghost use Rattle.ql_meaning.specs.Meaning.{program_told, program_planned};
+ghost use Rattle.ql_top.specs.PlainWords.{IsPlain};
 ghost use Rattle.ql_top.specs.Top.{IsText, Refusal, IsSource};
+ghost use Rattle.ql_top.specs.Words.{asked};
+ghost use Rattle.ql_top.specs.declared.words.Command.{Command};
 
 use ql_base::laws::numbered_names_are_distinct;
 use ql_expand::laws::expands_to_at_most_one;
 use ql_forms::laws::{numbered_at_most_one, spelled_forms_can_be_spelled};
 use ql_read::laws::{a_text_has_at_most_one_fault, spells_at_most_one};
+
+/// Plain words ask for the command and the numbers that they write.
+pub fn plain_words_ask()
+    ensures { (words : List (List ℕ)) (command : Command) → IsPlain words command → asked words ≡ Some command }
+{}
 
 /// Bytes are refused for one thing alone.
 pub fn refused_at_most_once()

@@ -2,11 +2,13 @@
 #![tactic(auto)]
 
 pub mod accept;
+pub mod command_line;
 pub mod error_line;
 pub mod laws;
 pub mod reading;
 pub mod show;
 pub mod status;
+pub mod summary;
 pub mod texts;
 pub mod top;
 pub mod words;

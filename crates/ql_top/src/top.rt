@@ -1,7 +1,7 @@
 //! The top call.
 
-ghost use Rattle.std.specs.Prelude.{◌≡◌, ◌⊎◌, ◌↔◌, ℕ, List, [], Option, Some, None, Err, IfOk, IfSome, OnOk, OnErr, true};
-ghost use Rattle.ql_base.specs.Limits.{usual};
+ghost use Rattle.std.specs.Prelude.{◌≡◌, ◌⊎◌, ◌++◌, ℕ, List, [], Option, Some, None, Err, IfOk, IfSome, OnOk, OnErr, true};
+ghost use Rattle.ql_base.specs.declared.limits.Limits.{Limits};
 ghost use Rattle.ql_base.specs.Outside.{Appends};
 ghost use Rattle.ql_forms.specs.Form.{Forms};
 ghost use Rattle.ql_forms.specs.View.{forms_of};
@@ -12,13 +12,15 @@ ghost use Rattle.ql_host.specs.Host.{Told, AreNames};
 ghost use Rattle.ql_meaning.specs.Legal.{Legal};
 ghost use Rattle.ql_meaning.specs.Meaning.{program_told, program_planned};
 ghost use Rattle.ql_compile.specs.Compile.{compiled};
-ghost use Rattle.ql_top.specs.Acts.{AnswersSome, Gives, HasRun, told_in, stop_in, output_in, lines_in};
+ghost use Rattle.ql_top.specs.Acts.{AnswersSome, Gives, IsRunOf, told_in, stop_in, output_in, lines_in};
 ghost use Rattle.ql_top.specs.Reading.{ReadsAll, ReadFaults};
 ghost use Rattle.ql_top.specs.Run.{CleansUpAlong};
 ghost use Rattle.ql_top.specs.Status.{status_of};
-ghost use Rattle.ql_top.specs.Top.{Makes, Refusal, IsSource, IsCutOff, Written, Answers, AnswersTaken, StopsOrFails, IsSilent, Tells, WriteFaults, SaysStatus};
-ghost use Rattle.ql_top.specs.Words.{asked, texts_of};
+ghost use Rattle.ql_top.specs.Summary.{summary};
+ghost use Rattle.ql_top.specs.Top.{Makes, Refusal, IsSource, IsSourceOf, HasSource, ReadsSource, LeavesSource, LeavesJournal, IsCutOff, Written, Answers, AnswersTaken, AnswersTrial, IsGenerated, StopsOrFails, IsSilent, Tells, WriteFaults, SaysStatus};
+ghost use Rattle.ql_top.specs.Words.{asked, texts_of, limits_of, IsInRange, IsSize, IsAsked};
 ghost use Rattle.ql_top.specs.declared.words.Command.{Command};
+ghost use Rattle.ql_top.specs.declared.words.Options.{Options};
 
 use crate::accept::accept;
 use crate::error_line::write_error_line;
@@ -29,12 +31,14 @@ use crate::laws::{
 use crate::reading::read_text;
 use crate::show::lines_of;
 use crate::status::{Ended, Status, status_of};
-use crate::words::{Command, asked};
+use crate::summary::write_summary;
+use crate::words::{Command, Options, asked};
 use crate::worker::run;
 use crate::writing::write_text;
 use ql_base::limits::Limits;
 use ql_base::names::Names;
 use ql_base::outside::{Failed, Sink, Source};
+use ql_base::sure::SureSource;
 use ql_code::code::Code;
 use ql_code::listing::write_listing;
 use ql_compile::laws::{code_follows_program, code_is_planned_as_program};
@@ -44,14 +48,16 @@ use ql_host::told::Told;
 use ql_journal::write::write_journal;
 use ql_meaning::laws::{journals_are_legal, killed_only_clean_up};
 use ql_scope::laws::{names_have_kinds_of_their_own, scoped_is_compilable};
+use ql_vectors::generate::generate;
 use ql_world::event::Stop;
 use std::alloc::{AllocError, Global};
 
 #[cfg(test)]
 mod tests;
 
-/// Does what the words ask for: reads the source, and writes output, a journal, and a line on `err`
-/// where not all went well. A run is that of one worker, under the usual limits.
+/// Does what the words ask for: reads the source or generates one, and writes output, a journal, and a
+/// line on `err` where not all went well. A run is that of one worker, however many are asked for,
+/// under the limits of the words.
 ///
 /// It always returns. A source that doesn't tell its bytes, as a file, is answered as one in memory
 /// with the bytes that were taken from it. `book` is for a journal to run along; no command reads one
@@ -65,40 +71,52 @@ pub fn one<S: Source, B: Source, O: Sink, J: Sink, E: Sink>(
     journal: &mut J,
     err: &mut E,
 ) -> Ended
-    // The words ask for nothing exactly where that is the answer.
-    ensures words { (result.status ≡ Status.Words) ↔ (asked (texts_of words.now) ≡ None) }
+    // The words ask for nothing exactly where that is the answer, want of memory aside.
+    ensures words { result.status ≡ Status.Words → asked (texts_of words.now) ≡ None }
+    ensures no_words { asked (texts_of words.now) ≡ None → (result.status ≡ Status.Words) ⊎ (result.status ≡ Status.NoMemory) }
 
     // The source is refused for the first fault of its text, or else of its forms, or else of its
     // names, or else since its code is too long. Else a check says that it is a program, a show writes
     // the forms, a list writes the code, and of a run output, journal and status are those of the
     // meaning's run along the schedule that the journal itself spells, as a host told them. That
     // schedule is the one of one worker, the journal is legal, and the killed only clean up.
-    ensures answer { (bytes : List ℕ) (command : Command) → S.left source.old ≡ Some bytes → asked (texts_of words.now) ≡ Some command
+    ensures answer { (command : Command) (bytes : List ℕ) → asked (texts_of words.now) ≡ Some command → ReadsSource command → S.left source.old ≡ Some bytes
         → Answers command result bytes (S.left source.new) (O.held out.old) (O.held out.new) (J.held journal.old) (J.held journal.new) }
 
     // That holds of every source, for the bytes that were taken.
-    ensures every { (command : Command) → asked (texts_of words.now) ≡ Some command
+    ensures every { (command : Command) → asked (texts_of words.now) ≡ Some command → ReadsSource command
         → AnswersTaken command result (S.left source.old) (S.left source.new) (O.held out.old) (O.held out.new) (J.held journal.old) (J.held journal.new) }
+
+    // It holds of a trial, for the text that is generated; its output ends with a summary.
+    ensures trial { (seed size : ℕ) (options : Options) → asked (texts_of words.now) ≡ Some (Command.Trial seed size options)
+        → AnswersTrial seed size options result (O.held out.old) (O.held out.new) (J.held journal.old) (J.held journal.new) }
+
+    // And the text itself is what gen writes.
+    ensures generated { (seed size : ℕ) → asked (texts_of words.now) ≡ Some (Command.Gen seed size)
+        → IsGenerated result.status seed size (O.held out.old) (O.held out.new) (J.held journal.old) (J.held journal.new) }
 
     // A host has told of the run just where there is one. Of that run the schedule is the one of one
     // worker, the journal is legal, and the killed only clean up.
     ensures told { Tells (asked (texts_of words.now)) result.status result.told }
-    ensures planned { (bytes : List ℕ) (program : Program) (told : Told) → S.left source.old ≡ Some bytes → result.told ≡ Some told → (is : IsSource bytes program)
-        → program_planned is.names program usual (turns told.story.journal.events) ≡ true }
+    ensures planned { (command : Command) (bytes : List ℕ) (program : Program) (told : Told) → asked (texts_of words.now) ≡ Some command
+        → IsSourceOf command (S.left source.old) bytes → result.told ≡ Some told → (is : IsSource bytes program)
+        → program_planned is.names program (limits_of command) (turns told.story.journal.events) ≡ true }
     ensures legal { IfSome result.told (λ told. Legal told.story.journal.events) }
-    ensures cleans { (bytes : List ℕ) (program : Program) (told : Told) → S.left source.old ≡ Some bytes → result.told ≡ Some told → (is : IsSource bytes program)
-        → CleansUpAlong is.names program usual (turns told.story.journal.events) }
+    ensures cleans { (command : Command) (bytes : List ℕ) (program : Program) (told : Told) → asked (texts_of words.now) ≡ Some command
+        → IsSourceOf command (S.left source.old) bytes → result.told ≡ Some told → (is : IsSource bytes program)
+        → CleansUpAlong is.names program (limits_of command) (turns told.story.journal.events) }
 
     // What must be refused is, unless memory or the source fails before.
-    ensures refused { (bytes : List ℕ) (command : Command) (kind at : ℕ) → S.left source.old ≡ Some bytes → asked (texts_of words.now) ≡ Some command
-        → Refusal bytes kind at
+    ensures refused { (command : Command) (bytes : List ℕ) (kind at : ℕ) → asked (texts_of words.now) ≡ Some command
+        → IsSourceOf command (S.left source.old) bytes → Refusal bytes kind at
         → (result.status ≡ Status.Refused kind at) ⊎ ((result.status ≡ Status.NoMemory) ⊎ (result.status ≡ Status.ReadFault)) }
 
     // The status is that of the stop of the program's whole run by one worker, unless memory or an end
     // fails. There is at most one such run.
-    ensures stops { (bytes : List ℕ) (program : Program) (schedule : List ℕ) (story : Story) → S.left source.old ≡ Some bytes
-        → asked (texts_of words.now) ≡ Some Command.Run → (is : IsSource bytes program) → program_told is.names program usual schedule ≡ Some story
-        → program_planned is.names program usual schedule ≡ true → StopsOrFails result.status story.stop }
+    ensures stops { (command : Command) (bytes : List ℕ) (program : Program) (schedule : List ℕ) (story : Story) → asked (texts_of words.now) ≡ Some command
+        → IsSourceOf command (S.left source.old) bytes → (LeavesJournal (Some command) → ⊥) → (is : IsSource bytes program)
+        → program_told is.names program (limits_of command) schedule ≡ Some story → program_planned is.names program (limits_of command) schedule ≡ true
+        → StopsOrFails result.status story.stop }
 
     // The counts of faults rise just where a fault is the answer.
     ensures read_faults { ReadFaults result.status (S.faults source.old) (S.faults source.new) }
@@ -108,8 +126,8 @@ pub fn one<S: Source, B: Source, O: Sink, J: Sink, E: Sink>(
     ensures silent { IsSilent result.status → (O.held out.new ≡ O.held out.old) × (J.held journal.new ≡ J.held journal.old) }
     ensures says { SaysStatus result.status (E.held err.old) (E.held err.new) (E.faults err.old) (E.faults err.new) }
     ensures quiet { result.status ≡ Status.Done → (E.held err.new ≡ E.held err.old) × (E.faults err.new ≡ E.faults err.old) }
-    ensures unread { result.status ≡ Status.Words → S.left source.new ≡ S.left source.old }
-    ensures no_journal { (asked (texts_of words.now) ≡ Some Command.Show) ⊎ ((asked (texts_of words.now) ≡ Some Command.Check) ⊎ (asked (texts_of words.now) ≡ Some Command.List)) → (J.held journal.new ≡ J.held journal.old) × (J.faults journal.new ≡ J.faults journal.old) }
+    ensures no_source { LeavesSource (asked (texts_of words.now)) → (S.left source.new ≡ S.left source.old) × (S.faults source.new ≡ S.faults source.old) }
+    ensures no_journal { LeavesJournal (asked (texts_of words.now)) → (J.held journal.new ≡ J.held journal.old) × (J.faults journal.new ≡ J.faults journal.old) }
     ensures no_book { (B.left book.new ≡ B.left book.old) × (B.faults book.new ≡ B.faults book.old) }
 {
     let _ = book;
@@ -130,24 +148,139 @@ fn answer<S: Source, O: Sink, J: Sink>(
     out: &mut O,
     journal: &mut J,
 ) -> Ended
-    ensures words { (result.status ≡ Status.Words) ↔ (asked (texts_of words.now) ≡ None) }
-    ensures answer { (command : Command) → asked (texts_of words.now) ≡ Some command
+    ensures words { result.status ≡ Status.Words → asked (texts_of words.now) ≡ None }
+    ensures no_words { asked (texts_of words.now) ≡ None → (result.status ≡ Status.Words) ⊎ (result.status ≡ Status.NoMemory) }
+    ensures answer { (command : Command) → asked (texts_of words.now) ≡ Some command → ReadsSource command
         → AnswersSome command result (S.left source.old) (S.left source.new) (O.held out.old) (O.held out.new) (J.held journal.old) (J.held journal.new) }
+    ensures trial { (seed size : ℕ) (options : Options) → asked (texts_of words.now) ≡ Some (Command.Trial seed size options)
+        → AnswersTrial seed size options result (O.held out.old) (O.held out.new) (J.held journal.old) (J.held journal.new) }
+    ensures generated { (seed size : ℕ) → asked (texts_of words.now) ≡ Some (Command.Gen seed size)
+        → IsGenerated result.status seed size (O.held out.old) (O.held out.new) (J.held journal.old) (J.held journal.new) }
     ensures told { Tells (asked (texts_of words.now)) result.status result.told }
     ensures read_faults { ReadFaults result.status (S.faults source.old) (S.faults source.new) }
     ensures write_faults { WriteFaults result.status (O.faults out.old) (O.faults out.new) (J.faults journal.old) (J.faults journal.new) }
     ensures silent { IsSilent result.status → (O.held out.new ≡ O.held out.old) × (J.held journal.new ≡ J.held journal.old) }
-    ensures unread { result.status ≡ Status.Words → S.left source.new ≡ S.left source.old }
-    ensures no_journal { (asked (texts_of words.now) ≡ Some Command.Show) ⊎ ((asked (texts_of words.now) ≡ Some Command.Check) ⊎ (asked (texts_of words.now) ≡ Some Command.List)) → (J.held journal.new ≡ J.held journal.old) × (J.faults journal.new ≡ J.faults journal.old) }
+    ensures no_source { LeavesSource (asked (texts_of words.now)) → (S.left source.new ≡ S.left source.old) × (S.faults source.new ≡ S.faults source.old) }
+    ensures no_journal { LeavesJournal (asked (texts_of words.now)) → (J.held journal.new ≡ J.held journal.old) × (J.faults journal.new ≡ J.faults journal.old) }
+{
+    match asked(alloc, words) {
+        Ok(Some(command)) => answer_command(alloc, command, source, out, journal),
+        Ok(None) => untold(Status::Words),
+        Err(_) => untold(Status::NoMemory),
+    }
+}
+
+/// The answer of a command.
+fn answer_command<S: Source, O: Sink, J: Sink>(
+    alloc: Global,
+    command: Command,
+    source: &mut S,
+    out: &mut O,
+    journal: &mut J,
+) -> Ended
+    requires range { IsInRange command }
+    ensures words { result.status ≡ Status.Words → ⊥ }
+    ensures answer { ReadsSource command
+        → AnswersSome command result (S.left source.old) (S.left source.new) (O.held out.old) (O.held out.new) (J.held journal.old) (J.held journal.new) }
+    ensures trial { (seed size : ℕ) (options : Options) → command ≡ Command.Trial seed size options
+        → AnswersTrial seed size options result (O.held out.old) (O.held out.new) (J.held journal.old) (J.held journal.new) }
+    ensures generated { (seed size : ℕ) → command ≡ Command.Gen seed size
+        → IsGenerated result.status seed size (O.held out.old) (O.held out.new) (J.held journal.old) (J.held journal.new) }
+    ensures told { Tells (Some command) result.status result.told }
+    ensures read_faults { ReadFaults result.status (S.faults source.old) (S.faults source.new) }
+    ensures write_faults { WriteFaults result.status (O.faults out.old) (O.faults out.new) (J.faults journal.old) (J.faults journal.new) }
+    ensures silent { IsSilent result.status → (O.held out.new ≡ O.held out.old) × (J.held journal.new ≡ J.held journal.old) }
+    ensures no_source { LeavesSource (Some command) → (S.left source.new ≡ S.left source.old) × (S.faults source.new ≡ S.faults source.old) }
+    ensures no_journal { LeavesJournal (Some command) → (J.held journal.new ≡ J.held journal.old) × (J.faults journal.new ≡ J.faults journal.old) }
+{
+    match command {
+        Command::Gen { seed, size } => answer_gen(alloc, seed, size, out, journal),
+        Command::Trial {
+            seed,
+            size,
+            options,
+        } => answer_trial(alloc, seed, size, options, out, journal),
+        Command::Check | Command::Show | Command::List | Command::Run(_) => {
+            answer_source(alloc, command, source, out, journal)
+        }
+    }
+}
+
+/// The answer of a command that reads the source.
+fn answer_source<S: Source, O: Sink, J: Sink>(
+    alloc: Global,
+    command: Command,
+    source: &mut S,
+    out: &mut O,
+    journal: &mut J,
+) -> Ended
+    requires range { IsInRange command }
+    requires reads { HasSource command }
+    ensures words { result.status ≡ Status.Words → ⊥ }
+    ensures answer { AnswersSome command result (S.left source.old) (S.left source.new) (O.held out.old) (O.held out.new) (J.held journal.old) (J.held journal.new) }
+    ensures told { Tells (Some command) result.status result.told }
+    ensures read_faults { ReadFaults result.status (S.faults source.old) (S.faults source.new) }
+    ensures write_faults { WriteFaults result.status (O.faults out.old) (O.faults out.new) (J.faults journal.old) (J.faults journal.new) }
+    ensures silent { IsSilent result.status → (O.held out.new ≡ O.held out.old) × (J.held journal.new ≡ J.held journal.old) }
+    ensures no_journal { LeavesJournal (Some command) → (J.held journal.new ≡ J.held journal.old) × (J.faults journal.new ≡ J.faults journal.old) }
 {
     // A fact that the condition of the answer rests on; the call does nothing.
     names_can_be_printed();
-    match asked(words) {
-        None => untold(Status::Words),
-        Some(command) => match read_text(alloc, source) {
-            Ok(text) => answer_text(alloc, command, text, out, journal),
-            Err(status) => untold(status),
-        },
+    match read_text(alloc, source) {
+        Ok(text) => answer_text(alloc, command, text, out, journal),
+        Err(status) => untold(status),
+    }
+}
+
+/// The answer of a trial: that of a command on the text that is generated.
+fn answer_trial<O: Sink, J: Sink>(
+    alloc: Global,
+    seed: u64,
+    size: u32,
+    options: Options,
+    out: &mut O,
+    journal: &mut J,
+) -> Ended
+    requires size { IsSize size }
+    requires limits { IsAsked options.limits }
+    ensures words { result.status ≡ Status.Words → ⊥ }
+    ensures read { result.status ≡ Status.ReadFault → ⊥ }
+    ensures answer { AnswersTrial seed size options result (O.held out.old) (O.held out.new) (J.held journal.old) (J.held journal.new) }
+    ensures told { Tells (Some (Command.Trial seed size options)) result.status result.told }
+    ensures write_faults { WriteFaults result.status (O.faults out.old) (O.faults out.new) (J.faults journal.old) (J.faults journal.new) }
+    ensures silent { IsSilent result.status → (O.held out.new ≡ O.held out.old) × (J.held journal.new ≡ J.held journal.old) }
+{
+    let command = Command::Trial {
+        seed,
+        size,
+        options,
+    };
+    match generate(alloc, seed, size) {
+        Ok(bytes) => { answer_source(alloc, command, &mut SureSource::new(bytes), out, journal) }
+        Err(_) => untold(Status::NoMemory),
+    }
+}
+
+/// The answer of a command that writes the text that is generated.
+fn answer_gen<O: Sink, J: Sink>(
+    alloc: Global,
+    seed: u64,
+    size: u32,
+    out: &mut O,
+    journal: &mut J,
+) -> Ended
+    requires size { IsSize size }
+    ensures words { result.status ≡ Status.Words → ⊥ }
+    ensures read { result.status ≡ Status.ReadFault → ⊥ }
+    ensures answer { IsGenerated result.status seed size (O.held out.old) (O.held out.new) (J.held journal.old) (J.held journal.new) }
+    ensures told { result.told ≡ None }
+    ensures write_faults { WriteFaults result.status (O.faults out.old) (O.faults out.new) (J.faults journal.old) (J.faults journal.new) }
+    ensures silent { IsSilent result.status → (O.held out.new ≡ O.held out.old) × (J.held journal.new ≡ J.held journal.old) }
+    ensures no_journal { (J.held journal.new ≡ J.held journal.old) × (J.faults journal.new ≡ J.faults journal.old) }
+{
+    match generate(alloc, seed, size) {
+        Ok(output) => write_texts(Texts::Alone { output }, out, journal),
+        Err(_) => untold(Status::NoMemory),
     }
 }
 
@@ -168,6 +301,8 @@ fn answer_text<O: Sink, J: Sink>(
     journal: &mut J,
 ) -> Ended
     requires names { AreNames text.names }
+    requires range { IsInRange command }
+    requires reads { HasSource command }
     ensures answer { (old new : Option (List ℕ)) → ReadsAll text old new
         → AnswersSome command result old new (O.held out.old) (O.held out.new) (J.held journal.old) (J.held journal.new) }
     ensures told { Tells (Some command) result.status result.told }
@@ -175,7 +310,7 @@ fn answer_text<O: Sink, J: Sink>(
     ensures words { result.status ≡ Status.Words → ⊥ }
     ensures write_faults { WriteFaults result.status (O.faults out.old) (O.faults out.new) (J.faults journal.old) (J.faults journal.new) }
     ensures silent { IsSilent result.status → (O.held out.new ≡ O.held out.old) × (J.held journal.new ≡ J.held journal.old) }
-    ensures no_journal { (command ≡ Command.Show) ⊎ ((command ≡ Command.Check) ⊎ (command ≡ Command.List)) → (J.held journal.new ≡ J.held journal.old) × (J.faults journal.new ≡ J.faults journal.old) }
+    ensures no_journal { LeavesJournal (Some command) → (J.held journal.new ≡ J.held journal.old) × (J.faults journal.new ≡ J.faults journal.old) }
 {
     // Facts that the clauses rest on; the calls do nothing.
     refused_at_most_once();
@@ -192,32 +327,53 @@ fn answer_text<O: Sink, J: Sink>(
 #[derive(Drop)]
 enum Texts {
     /// What a host told of a run, and the text of its journal.
-    Ran { told: Told, lines: Vec<u8> },
+    Ran {
+        told: Told,
+        lines: Vec<u8>,
+    },
+    /// What a host told of a trial, its output with the summary, and the text of its journal.
+    Tried {
+        told: Told,
+        output: Vec<u8>,
+        lines: Vec<u8>,
+    },
     /// An output, with no journal.
-    Alone { output: Vec<u8> },
+    Alone {
+        output: Vec<u8>,
+    },
 }
 
 /// The texts of a command on the forms of a source, unless something is wrong with them.
 fn texts_of(alloc: Global, command: Command, text: Text) -> Result<Texts, Status>
     requires names { AreNames text.names }
+    requires range { IsInRange command }
+    requires reads { HasSource command }
     ensures texts { Gives command result text.names (forms_of text.forms) }
-    ensures no_journal { (command ≡ Command.Show) ⊎ ((command ≡ Command.Check) ⊎ (command ≡ Command.List)) → IfOk result (λ texts. lines_in texts ≡ []) }
+    ensures no_journal { LeavesJournal (Some command) → IfOk result (λ texts. lines_in texts ≡ []) }
 {
     match accept(alloc, &text) {
         Ok(code) => match command {
-            Command::Run => texts_of_run(alloc, text.names, code),
+            Command::Run(options) => texts_of_run(alloc, options, text.names, code),
             Command::Show => texts_of_show(alloc, &text),
             Command::Check => texts_of_check(alloc),
             Command::List => texts_of_list(alloc, &text.names, &code),
+            Command::Trial {
+                seed,
+                size,
+                options,
+            } => texts_of_trial(alloc, seed, size, options, text.names, code),
+            // It reads no source.
+            Command::Gen { .. } => unreachable!(),
         },
         Err(status) => Err(status),
     }
 }
 
 /// The texts of the run of a program's code.
-fn texts_of_run(alloc: Global, names: Names, code: Code) -> Result<Texts, Status>
+fn texts_of_run(alloc: Global, options: Options, names: Names, code: Code) -> Result<Texts, Status>
     requires names { AreNames names }
-    ensures { (forms : Forms) (program : Program) → Makes names forms program → code ≡ compiled program → Gives Command.Run result names forms }
+    requires limits { IsAsked options.limits }
+    ensures { (forms : Forms) (program : Program) → Makes names forms program → code ≡ compiled program → Gives (Command.Run options) result names forms }
 {
     // Facts that the clause rests on; the calls do nothing.
     scoped_is_compilable();
@@ -225,21 +381,74 @@ fn texts_of_run(alloc: Global, names: Names, code: Code) -> Result<Texts, Status
     code_is_planned_as_program();
     journals_are_legal();
     killed_only_clean_up();
-    match texts_of_code(alloc, names, code) {
-        Ok(texts) => Ok(texts),
+    match run_code(alloc, options.limits, names, code) {
+        Ok((told, lines)) => Ok(Texts::Ran { told, lines }),
         Err(_) => Err(Status::NoMemory),
     }
 }
 
-/// The texts of the run of this code by one worker, under the usual limits.
-fn texts_of_code(alloc: Global, names: Names, code: Code) -> Result<Texts, AllocError>
+/// The texts of the trial of a program's code.
+fn texts_of_trial(
+    alloc: Global,
+    seed: u64,
+    size: u32,
+    options: Options,
+    names: Names,
+    code: Code,
+) -> Result<Texts, Status>
     requires names { AreNames names }
-    ensures { IfOk result (HasRun code names) }
+    requires limits { IsAsked options.limits }
+    ensures { (forms : Forms) (program : Program) → Makes names forms program → code ≡ compiled program → Gives (Command.Trial seed size options) result names forms }
 {
-    let told = run(alloc, code, names, Limits::usual())?;
+    // Facts that the clause rests on; the calls do nothing.
+    scoped_is_compilable();
+    code_follows_program();
+    code_is_planned_as_program();
+    journals_are_legal();
+    killed_only_clean_up();
+    let Ok((told, lines)) = run_code(alloc, options.limits, names, code) else {
+        return Err(Status::NoMemory);
+    };
+    match with_summary(alloc, told.output(), seed, size, told.stop()) {
+        Ok(output) => Ok(Texts::Tried {
+            told,
+            output,
+            lines,
+        }),
+        Err(_) => Err(Status::NoMemory),
+    }
+}
+
+/// What was printed, and the summary of a trial.
+fn with_summary(
+    alloc: Global,
+    printed: &[u8],
+    seed: u64,
+    size: u32,
+    stop: Stop,
+) -> Result<Vec<u8>, AllocError>
+    ensures { IfOk result (λ output. output.items ≡ printed.now ++ summary seed size stop) }
+{
+    let mut output = Vec::from_slice(alloc, printed)?;
+    write_summary(seed, size, stop, &mut output)?;
+    Ok(output)
+}
+
+/// Runs this code by one worker under these limits: what a host tells of it, and the text of its journal.
+fn run_code(
+    alloc: Global,
+    limits: Limits,
+    names: Names,
+    code: Code,
+) -> Result<(Told, Vec<u8>), AllocError>
+    requires names { AreNames names }
+    requires limits { IsAsked limits }
+    ensures { IfOk result (λ ran. IsRunOf code names limits ran.0 ran.1.items) }
+{
+    let told = run(alloc, code, names, limits)?;
     let mut lines = Vec::new(alloc);
     write_journal(alloc, told.journal(), &mut lines)?;
-    Ok(Texts::Ran { told, lines })
+    Ok((told, lines))
 }
 
 /// Each form of a source on a line of its own.
@@ -287,6 +496,23 @@ fn write_texts<O: Sink, J: Sink>(texts: Texts, out: &mut O, journal: &mut J) -> 
     match texts {
         Texts::Ran { told, lines } => {
             let status = write_stopped(told.stop(), told.output(), lines.as_slice(), out, journal);
+            Ended {
+                status,
+                told: Some(told),
+            }
+        }
+        Texts::Tried {
+            told,
+            output,
+            lines,
+        } => {
+            let status = write_stopped(
+                told.stop(),
+                output.as_slice(),
+                lines.as_slice(),
+                out,
+                journal,
+            );
             Ended {
                 status,
                 told: Some(told),

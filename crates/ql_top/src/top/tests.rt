@@ -3,10 +3,12 @@
 ghost use Rattle.std.specs.Prelude.{◌≤◌, None};
 
 use super::*;
+use crate::status::code_of;
 use ql_base::fault::RunFault;
 use ql_base::memory::{MemSink, MemSource};
 use ql_base::numbers::Pid;
-use ql_base::sure::SureSource;
+use ql_base::sure::{SureSink, SureSource};
+use ql_vectors::vector::vectors;
 use std::process::Abort;
 
 /// A call, and what must come of it.
@@ -67,6 +69,33 @@ const CASES: &[Case] = &[
         err: b"ql: bad words\n",
     },
     Case {
+        name: "a policy that there isn't",
+        words: &["run", "--policy", "oldest"],
+        source: b"1",
+        status: Status::Words,
+        out: b"",
+        journal: b"",
+        err: b"ql: bad words\n",
+    },
+    Case {
+        name: "a size of nothing",
+        words: &["gen", "1", "0"],
+        source: b"1",
+        status: Status::Words,
+        out: b"",
+        journal: b"",
+        err: b"ql: bad words\n",
+    },
+    Case {
+        name: "a generated source",
+        words: &["gen", "0", "1"],
+        source: b")",
+        status: Status::Done,
+        out: b"(defvar total 0)\n(defvar acc (qlambda t (n) (setq total (+ total n))))\n(defun fib (n) (if (< n 2) n (+ (fib (- n 1)) (fib (- n 2)))))\n(funcall acc (let ((a 1)) a))\n(print total)\n",
+        journal: b"",
+        err: b"",
+    },
+    Case {
         name: "show of a quote mark and a name of 64 bytes",
         words: &["show"],
         source: b"'aaaaaaaaaaaaaaaaaaaaaaaaaaaaaaaaaaaaaaaaaaaaaaaaaaaaaaaaaaaaaaaa",
@@ -100,6 +129,37 @@ const RUNS: &[Case] = &[
         out: b"",
         journal: b"qlisp 2 2000000 1000000 65535 16777216\nturn 1 3\nstop error overflow 1 7\n",
         err: b"ql: error overflow in 1 at 7\n",
+    },
+    Case {
+        name: "a tick too few",
+        words: &["run", "--budget", "4", "--cells", "9"],
+        source: b"(print (+ 1 2))",
+        status: Status::Budget,
+        out: b"3\n",
+        journal: b"qlisp 2 4 9 65535 16777216\nturn 1 4\nstop budget\n",
+        err: b"ql: budget spent\n",
+    },
+    Case {
+        name: "the newest first, two ticks each",
+        words: &["run", "--quantum", "2", "--policy", "new", "--workers", "2"],
+        source: b"(qlet 'eager ((x (throw 'no 1))) (print 2))",
+        status: Status::Fault {
+            kind: RunFault::NoCatch,
+            proc: Pid(2),
+            at: 17,
+        },
+        out: b"",
+        journal: b"qlisp 2 2000000 1000000 65535 16777216\nturn 1 2\nspawn 1 2 0 let\nturn 2 3\nstop error nocatch 2 17\n",
+        err: b"ql: error nocatch in 2 at 17\n",
+    },
+    Case {
+        name: "a trial, which reads no source",
+        words: &["trial", "0", "1"],
+        source: b")",
+        status: Status::Done,
+        out: b"1\ntrial 0 1 done\n",
+        journal: b"qlisp 2 2000000 1000000 65535 16777216\nturn 1 4\nspawn 1 2 0 call 1\nturn 1 6\nsend 1 1 1\nturn 2 1\ntake 2 1 1\nturn 2 5\nreply 2 1 1 1\nturn 1 4\nexit 1 0\nkill 0 2\nend 1 ok\nturn 2 1\nend 2 killed\nstop done\n",
+        err: b"",
     },
 ];
 
@@ -151,6 +211,31 @@ fn runs_answer_as_told(rt: HostRuntime) -> Result<(), AllocError> {
     for case in RUNS {
         check(&rt, case, 1000, true)?;
         check(&rt, case, 1, true)?;
+    }
+    Ok(())
+}
+
+#[test]
+fn the_vectors_run_as_they_say(rt: HostRuntime) -> Result<(), AllocError> {
+    let alloc = rt.alloc();
+    for vector in vectors() {
+        let bytes = Vec::from_slice(alloc, vector.source)?;
+        let mut source = MemSource::new(bytes, 1000, Vec::new(alloc));
+        let mut book = SureSource::new(Vec::new(alloc));
+        let mut out = MemSink::new(alloc, 1000, 1000, Vec::new(alloc))?;
+        let mut err = MemSink::new(alloc, 100, 100, Vec::new(alloc))?;
+        let ended = one(
+            alloc,
+            &["run"],
+            &mut source,
+            &mut book,
+            &mut out,
+            &mut SureSink::new(),
+            &mut err,
+        );
+        let name = vector.name;
+        assert_eq!(&rt; code_of(&ended.status), vector.code, "{name}");
+        assert_eq!(&rt; out.bytes(), vector.output, "{name}");
     }
     Ok(())
 }

@@ -15,3 +15,7 @@ returns-in-Check-clause-texts c =
 pub returns-in-List-clause-texts : goal.returns-in-List-clause-texts
 returns-in-List-clause-texts c =
     rw c.in-List.is (c.texts_of_list.ensures.texts (forms_of c.args.text.forms) c.in-Ok.ensures.program c.in-Ok.ensures.makes c.in-Ok.ensures.code_is)
+
+pub returns-in-Trial-clause-texts : goal.returns-in-Trial-clause-texts
+returns-in-Trial-clause-texts c =
+    rw c.in-Trial.is (c.texts_of_trial.ensures (forms_of c.args.text.forms) c.in-Ok.ensures.program c.in-Ok.ensures.makes c.in-Ok.ensures.code_is)
