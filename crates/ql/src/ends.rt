@@ -28,6 +28,14 @@ pub fn source_of<'a>(words: &[&'a str]) -> Input<'a> {
     }
 }
 
+/// Whether the command reads its source from the file of this name.
+pub fn reads(words: &[&str], name: &str) -> bool {
+    match source_of(words) {
+        Input::File(source) => source == name,
+        Input::Standard | Input::Nothing => false,
+    }
+}
+
 /// The name of the file to which the command writes its journal, if it does.
 pub fn journal_of<'a>(words: &[&'a str]) -> Option<&'a str> {
     match words {

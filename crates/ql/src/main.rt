@@ -69,6 +69,10 @@ fn call(rt: &HostRuntime, words: &[&str]) -> ExitCode {
 // Makes the journal that the command writes, and goes on with it. A file that exists is replaced.
 fn read_from<S: Source>(rt: &HostRuntime, words: &[&str], source: &mut S) -> ExitCode {
     match ends::journal_of(words) {
+        // It would take the place of the source, which is then lost.
+        Some(name) if ends::reads(words, name) => {
+            unopened(rt, name, code_of(&Status::WriteFault))
+        }
         Some(name) => match File::create(rt, name) {
             Ok(file) => write_to(rt, words, source, &mut StdSink::new(file)),
             Err(_) => unopened(rt, name, code_of(&Status::WriteFault)),

@@ -13,6 +13,7 @@ ghost use Rattle.ql_meaning.specs.Legal.{Legal};
 ghost use Rattle.ql_meaning.specs.Meaning.{program_told, program_planned};
 ghost use Rattle.ql_compile.specs.Compile.{compiled};
 ghost use Rattle.ql_top.specs.Acts.{AnswersSome, Gives, IsRunOf, told_in, stop_in, output_in, lines_in};
+ghost use Rattle.ql_top.specs.PlainWords.{IsPlain};
 ghost use Rattle.ql_top.specs.Reading.{ReadsAll, ReadFaults};
 ghost use Rattle.ql_top.specs.Run.{CleansUpAlong};
 ghost use Rattle.ql_top.specs.Status.{status_of};
@@ -25,8 +26,8 @@ ghost use Rattle.ql_top.specs.declared.words.Options.{Options};
 use crate::accept::accept;
 use crate::error_line::write_error_line;
 use crate::laws::{
-    at_most_one_program, names_can_be_printed, one_planned_schedule, programs_are_accepted,
-    refused_at_most_once,
+    at_most_one_program, names_can_be_printed, one_planned_schedule, plain_words_ask,
+    programs_are_accepted, refused_at_most_once,
 };
 use crate::reading::read_text;
 use crate::show::lines_of;
@@ -74,6 +75,9 @@ pub fn one<S: Source, B: Source, O: Sink, J: Sink, E: Sink>(
     // The words ask for nothing exactly where that is the answer, want of memory aside.
     ensures words { result.status ≡ Status.Words → asked (texts_of words.now) ≡ None }
     ensures no_words { asked (texts_of words.now) ≡ None → (result.status ≡ Status.Words) ⊎ (result.status ≡ Status.NoMemory) }
+
+    // Plain words ask for the command and the numbers that they write.
+    ensures plain { (command : Command) → IsPlain (texts_of words.now) command → asked (texts_of words.now) ≡ Some command }
 
     // The source is refused for the first fault of its text, or else of its forms, or else of its
     // names, or else since its code is too long. Else a check says that it is a program, a show writes
@@ -132,6 +136,7 @@ pub fn one<S: Source, B: Source, O: Sink, J: Sink, E: Sink>(
 {
     let _ = book;
     // Facts that the clauses rest on; the calls do nothing.
+    plain_words_ask();
     programs_are_accepted();
     at_most_one_program();
     one_planned_schedule();

@@ -18,6 +18,9 @@ use ql_proc::local::run_local;
 use std::alloc::{AllocError, Global};
 use std::sync::Arc;
 
+#[cfg(test)]
+mod tests;
+
 /// The process that was picked last, and how many ticks it took since.
 #[derive(Clone, Copy, Debug, PartialEq, Eq)]
 struct Picked {

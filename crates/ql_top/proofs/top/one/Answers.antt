@@ -6,6 +6,9 @@ use Rattle.ql_top.proofs.Ran.{run_told, legal_told}
 use Rattle.ql_top.proofs.Stopping.{stops_as_told}
 use Rattle.ql_top.proofs.top.one.Goals as goal
 
+pub returns-clause-plain : goal.returns-clause-plain
+returns-clause-plain g c command plain = c.plain_words_ask.ensures _ command plain
+
 pub returns-clause-answer : goal.returns-clause-answer
 returns-clause-answer g c command b asked reads e = told_answer command _ b _ _ _ _ _ _ e (c.answer-ended.ensures.answer command asked reads)
 
