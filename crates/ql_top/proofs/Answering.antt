@@ -1,6 +1,7 @@
 -- What an answer says of the bytes.
 use Rattle.std.proofs.Common.{◌≡◌, ◌⊎◌, ◌≤◌, ◌++◌, ℕ, List, [], Option, Some, None, refl, sym, ap, ◌∙◌, subst, append-nil, inl, inr, arith}
 use Rattle.std.specs.Prelude.{Err}
+use Rattle.ql_base.specs.Outside.{HasRisen}
 use Rattle.ql_forms.specs.Form.{Forms}
 use Rattle.ql_forms.specs.View.{forms_of}
 use Rattle.ql_forms.specs.declared.text.Text.{Text}
@@ -10,8 +11,8 @@ use Rattle.ql_world.specs.declared.event.Stop.TheVariants.{Done as done}
 use Rattle.ql_host.specs.Host.{Told}
 use Rattle.ql_read.specs.TextFault.{MayFollow, IsRead}
 use Rattle.ql_top.specs.Acts.{told_in, stop_in, output_in, lines_in, HasTexts, Gives, AnswersSome}
-use Rattle.ql_top.specs.Reading.{Takes, IsAtEnd, ReadsAll, IsFaulty, StopsReading}
-use Rattle.ql_top.specs.Top.{IsText, Unfit, Refusal, of_text, of_forms, IsRefused, IsSource, Writes, of_run, of_trial, of_show, of_check, of_list, HasSource, ReadsSource, IsSourceOf, AnswersTrial, IsGenerated, Written, IsDone, EndsBy, Answers, AnswersTaken, IsSilent, Tells}
+use Rattle.ql_top.specs.Reading.{Takes, IsAtEnd, ReadsAll, IsFaulty, StopsReading, ReadFaults}
+use Rattle.ql_top.specs.Top.{IsText, Unfit, Refusal, of_text, of_forms, IsRefused, IsSource, Writes, of_run, of_trial, of_show, of_check, of_list, HasSource, ReadsSource, IsSourceOf, AnswersTrial, IsAnswer, IsGenerated, Written, IsDone, EndsBy, Answers, AnswersTaken, IsSilent, Tells, WriteFaults}
 use Rattle.ql_top.specs.declared.top.Texts.{Texts}
 use Rattle.ql_top.specs.declared.words.Command.{Command}
 use Rattle.ql_top.specs.declared.words.Command.TheVariants as commands
@@ -260,3 +261,21 @@ is_generated (Limit kind) seed size text o o' j j' e w = subst (λ t. Written (L
 is_generated NoMemory seed size text o o' j j' e w = tt
 is_generated ReadFault seed size text o o' j j' e w = subst (λ t. Written ReadFault done t [] o o' j j') e w
 is_generated WriteFault seed size text o o' j j' e w = subst (λ t. Written WriteFault done t [] o o' j j') e w
+
+pub some_words : (asked : Option Command) (command : Command) → asked ≡ None → asked ≡ Some command → Prim.⊥
+some_words asked command e f = let bad : None ≡ Some command = sym e ∙ f in absurd cc
+
+-- where no fault rose, something came of the command
+pub complete_answer : (status : Status) (s s' o o' j j' : ℕ) → (status ≡ Words → Prim.⊥) → ReadFaults status s s' → WriteFaults status o o' j j'
+    → (HasRisen s s' → Prim.⊥) → (HasRisen o o' → Prim.⊥) → (HasRisen j j' → Prim.⊥) → IsAnswer status
+complete_answer Done s s' o o' j j' asked read write source out journal = tt
+complete_answer (Refused kind at) s s' o o' j j' asked read write source out journal = tt
+complete_answer Words s s' o o' j j' asked read write source out journal = asked refl
+complete_answer (Fault kind p at) s s' o o' j j' asked read write source out journal = tt
+complete_answer Budget s s' o o' j j' asked read write source out journal = tt
+complete_answer Deadlock s s' o o' j j' asked read write source out journal = tt
+complete_answer (Limit kind) s s' o o' j j' asked read write source out journal = tt
+complete_answer NoMemory s s' o o' j j' asked read write source out journal = tt
+complete_answer ReadFault s s' o o' j j' asked read write source out journal = source read
+complete_answer WriteFault s s' o o' j j' asked read (inl h) source out journal = out h.0
+complete_answer WriteFault s s' o o' j j' asked read (inr h) source out journal = journal h.1

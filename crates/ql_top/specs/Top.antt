@@ -197,6 +197,13 @@ abbrev pub SaysStatus : Status → (err err' : Option (List ℕ)) → (faults fa
 SaysStatus status err err' faults faults' =
     (Appends (error_line status) err err' × (faults' ≡ faults)) ⊎ (AppendsFront (error_line status) err err' × HasRisen faults faults')
 
+-- a status that says what came of a command, or that memory was wanted
+abbrev pub IsAnswer : Status → Type 0
+IsAnswer Words = Prim.⊥
+IsAnswer ReadFault = Prim.⊥
+IsAnswer WriteFault = Prim.⊥
+IsAnswer status = Prim.Unit {0}
+
 -- The status of a stop, or one of the three failures that hide it.
 abbrev pub StopsOrFails : Status → stop.Stop → Type 0
 StopsOrFails status stop = (status ≡ status_of stop) ⊎ ((status ≡ NoMemory) ⊎ ((status ≡ ReadFault) ⊎ (status ≡ WriteFault)))

@@ -2,7 +2,7 @@
 
 ghost use Rattle.std.specs.Prelude.{◌≡◌, ◌⊎◌, ◌++◌, ℕ, List, [], Option, Some, None, Err, IfOk, IfSome, OnOk, OnErr, true};
 ghost use Rattle.ql_base.specs.declared.limits.Limits.{Limits};
-ghost use Rattle.ql_base.specs.Outside.{Appends};
+ghost use Rattle.ql_base.specs.Outside.{Appends, HasRisen};
 ghost use Rattle.ql_forms.specs.Form.{Forms};
 ghost use Rattle.ql_forms.specs.View.{forms_of};
 ghost use Rattle.ql_expand.specs.Core.{Program};
@@ -18,7 +18,7 @@ ghost use Rattle.ql_top.specs.Reading.{ReadsAll, ReadFaults};
 ghost use Rattle.ql_top.specs.Run.{CleansUpAlong};
 ghost use Rattle.ql_top.specs.Status.{status_of};
 ghost use Rattle.ql_top.specs.Summary.{summary};
-ghost use Rattle.ql_top.specs.Top.{Makes, Refusal, IsSource, IsSourceOf, HasSource, ReadsSource, LeavesSource, LeavesJournal, IsCutOff, Written, Answers, AnswersTaken, AnswersTrial, IsGenerated, StopsOrFails, IsSilent, Tells, WriteFaults, SaysStatus};
+ghost use Rattle.ql_top.specs.Top.{Makes, Refusal, IsSource, IsSourceOf, HasSource, ReadsSource, LeavesSource, LeavesJournal, IsCutOff, Written, Answers, AnswersTaken, AnswersTrial, IsAnswer, IsGenerated, StopsOrFails, IsSilent, Tells, WriteFaults, SaysStatus};
 ghost use Rattle.ql_top.specs.Words.{asked, texts_of, limits_of, IsInRange, IsSize, IsAsked};
 ghost use Rattle.ql_top.specs.declared.words.Command.{Command};
 ghost use Rattle.ql_top.specs.declared.words.Options.{Options};
@@ -121,6 +121,10 @@ pub fn one<S: Source, B: Source, O: Sink, J: Sink, E: Sink>(
         → IsSourceOf command (S.left source.old) bytes → (LeavesJournal (Some command) → ⊥) → (is : IsSource bytes program)
         → program_told is.names program (limits_of command) schedule ≡ Some story → program_planned is.names program (limits_of command) schedule ≡ true
         → StopsOrFails result.status story.stop }
+
+    // Where the words ask for something and no fault of an end rose, what came of the command is the answer, or want of memory.
+    ensures complete { (command : Command) → asked (texts_of words.now) ≡ Some command → (HasRisen (S.faults source.old) (S.faults source.new) → ⊥)
+        → (HasRisen (O.faults out.old) (O.faults out.new) → ⊥) → (HasRisen (J.faults journal.old) (J.faults journal.new) → ⊥) → IsAnswer result.status }
 
     // The counts of faults rise just where a fault is the answer.
     ensures read_faults { ReadFaults result.status (S.faults source.old) (S.faults source.new) }

@@ -1,7 +1,7 @@
 use Rattle.std.proofs.Common.{◌∙◌, ap, subst, refl}
 use Rattle.std.specs.Prelude.{Some}
 use Rattle.ql_top.specs.Top.{Tells}
-use Rattle.ql_top.proofs.Answering.{told_answer, taken_answer, ends_for, ends_somehow, must_refuse}
+use Rattle.ql_top.proofs.Answering.{told_answer, taken_answer, ends_for, ends_somehow, must_refuse, complete_answer, some_words}
 use Rattle.ql_top.proofs.Ran.{run_told, legal_told}
 use Rattle.ql_top.proofs.Stopping.{stops_as_told}
 use Rattle.ql_top.proofs.top.one.Goals as goal
@@ -27,6 +27,11 @@ returns-clause-stops g c command b p schedule story asked e runs i told planned 
     (λ seed size options same. c.answer-ended.ensures.trial seed size options (asked ∙ ap Some same)) b e in
     stops_as_told c.at_most_one_program.ensures.programs c.at_most_one_program.ensures.names c.programs_are_accepted.ensures c.one_planned_schedule.ensures
     command runs b a.0 _ _ _ _ p schedule story i told planned c.answer-ended.result c.answer-ended.result.status refl a.1
+
+pub returns-clause-complete : goal.returns-clause-complete
+returns-clause-complete g c command asked source out journal =
+    complete_answer c.answer-ended.result.status _ _ _ _ _ _ (λ e. some_words _ command (c.answer-ended.ensures.words e) asked)
+    c.answer-ended.ensures.read_faults c.answer-ended.ensures.write_faults source out journal
 
 pub returns-clause-planned : goal.returns-clause-planned
 returns-clause-planned g c command b p told asked e t i =
