@@ -5,8 +5,8 @@ A case has the words of the command, the source on standard input, and what is t
 output, the journal, which goes to a file (null where none is written), and the line on standard error. The cases come
 from an implementation of the language that shares nothing with this one.
 
-With several workers it depends on the threads who takes which turn. There the first and the last line of the journal
-are compared alone.
+So far one worker runs a program, however many the words ask for, so a journal is the same in each run and is compared
+as a whole.
 
     tests/vectors.py [PROGRAM]       the program is crates/ql/out/ql where none is given
 """
@@ -40,24 +40,15 @@ def run(program, case, path):
     }
 
 
-def workers_of(words):
-    return int(words[words.index("--workers") + 1]) if "--workers" in words else 1
-
-
-def as_compared(what, told, words):
-    """A part of what came of a case, as far as it is the same in each run. No journal is an empty one."""
-    if what == "journal":
-        told = told or ""
-        if workers_of(words) > 1:
-            lines = told.splitlines()
-            return lines[:1] + lines[-1:]
-    return told
+def as_compared(what, told):
+    """A part of what came of a case. No journal is an empty one."""
+    return (told or "") if what == "journal" else told
 
 
 def differences(case, found):
     """Each part of what came of a case that isn't as it should be."""
     for what in found:
-        wanted, told = (as_compared(what, parts[what], case["words"]) for parts in (case, found))
+        wanted, told = (as_compared(what, parts[what]) for parts in (case, found))
         if wanted != told:
             yield what, wanted, told
 
