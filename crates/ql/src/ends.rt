@@ -1,30 +1,44 @@
 //! Which ends the words of the program name.
 
-/// The name of standard input as a source, and of a journal that keeps nothing.
+/// The name of standard input as a source or a book, and of a journal that keeps nothing.
 const STANDARD: &str = "-";
 
-/// Where the source is read from.
+/// Where a source or a book is read from.
 #[derive(Clone, Copy)]
 pub enum Input<'a> {
     /// Standard input.
     Standard,
     /// The file of this name.
     File(&'a str),
-    /// Nowhere: the command reads no source.
+    /// Nowhere: the command reads none.
     Nothing,
 }
 
 /// The source that the command needs.
 pub fn source_of<'a>(words: &[&'a str]) -> Input<'a> {
     match words {
-        [source, _, command, ..] if is_among(command, &["check", "list", "run", "show"]) => {
-            if *source == STANDARD {
-                Input::Standard
-            } else {
-                Input::File(source)
-            }
+        [source, _, command, ..]
+            if is_among(command, &["check", "list", "replay", "run", "show"]) =>
+        {
+            named(source)
         }
         _ => Input::Nothing,
+    }
+}
+
+/// The book that the command needs, which stands in the place of the journal.
+pub fn book_of<'a>(words: &[&'a str]) -> Input<'a> {
+    match words {
+        [_, book, command, ..] if is_among(command, &["replay", "span"]) => named(book),
+        _ => Input::Nothing,
+    }
+}
+
+fn named(name: &str) -> Input<'_> {
+    if name == STANDARD {
+        Input::Standard
+    } else {
+        Input::File(name)
     }
 }
 

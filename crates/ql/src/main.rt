@@ -1,4 +1,4 @@
-//! The program `ql SOURCE JOURNAL COMMAND`: it opens the files that the command needs, the source first,
+//! The program `ql SOURCE JOURNAL COMMAND`: it opens the files that the command needs, the source first, then the book,
 //! makes the top call and ends with the exit code of its status. A line that standard error doesn't take changes no exit code.
 #![tactic(auto)]
 
@@ -66,35 +66,60 @@ fn call(rt: &HostRuntime, words: &[&str]) -> ExitCode {
     }
 }
 
-// Makes the journal that the command writes, and goes on with it. A file that exists is replaced.
+// Opens the book that the command needs, and goes on with it.
 fn read_from<S: Source>(rt: &HostRuntime, words: &[&str], source: &mut S) -> ExitCode {
+    match ends::book_of(words) {
+        Input::Standard => make_call(
+            rt,
+            words,
+            source,
+            &mut StdSource::new(rt.stdin()),
+            &mut SureSink::new(),
+        ),
+        Input::File(name) => match File::open(rt, name) {
+            Ok(file) => make_call(
+                rt,
+                words,
+                source,
+                &mut StdSource::new(file),
+                &mut SureSink::new(),
+            ),
+            Err(_) => unopened(rt, name, code_of(&Status::ReadFault)),
+        },
+        Input::Nothing => without_book(rt, words, source),
+    }
+}
+
+// Makes the journal that the command writes, and goes on with it. A file that exists is replaced.
+fn without_book<S: Source>(rt: &HostRuntime, words: &[&str], source: &mut S) -> ExitCode {
+    let mut book = SureSource::new(Vec::new(rt.alloc()));
     match ends::journal_of(words) {
         // It would take the place of the source, which is then lost.
         Some(name) if ends::reads(words, name) => {
             unopened(rt, name, code_of(&Status::WriteFault))
         }
         Some(name) => match File::create(rt, name) {
-            Ok(file) => write_to(rt, words, source, &mut StdSink::new(file)),
+            Ok(file) => make_call(rt, words, source, &mut book, &mut StdSink::new(file)),
             Err(_) => unopened(rt, name, code_of(&Status::WriteFault)),
         },
-        None => write_to(rt, words, source, &mut SureSink::new()),
+        None => make_call(rt, words, source, &mut book, &mut SureSink::new()),
     }
 }
 
-fn write_to<S: Source, J: Sink>(
+fn make_call<S: Source, B: Source, J: Sink>(
     rt: &HostRuntime,
     words: &[&str],
     source: &mut S,
+    book: &mut B,
     journal: &mut J,
 ) -> ExitCode {
-    let mut book = SureSource::new(Vec::new(rt.alloc()));
     let mut out = StdSink::new(rt.stdout());
     let mut err = StdSink::new(rt.stderr());
     let ended = one(
         rt.alloc(),
         ends::asked(words),
         source,
-        &mut book,
+        book,
         &mut out,
         journal,
         &mut err,

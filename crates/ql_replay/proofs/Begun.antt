@@ -1,6 +1,7 @@
 -- A book whose opening was read.
-use Rattle.std.proofs.Common.{◌≡◌, ℕ, ◌==◌, true, false, Bool, List, [], ◌∷◌, ◌++◌, drop, Option, Some, None, refl, sym, ap, ◌∙◌, subst, arith, append_assoc, eq-eqb}
-use Rattle.std.specs.Prelude.{Result}
+use Rattle.std.proofs.Common.{◌≡◌, ℕ, ◌==◌, true, false, Bool, List, [], ◌∷◌, ◌++◌, drop, length, ◌≤◌, ◌⊎◌, Option, Some, None, refl, sym, ap, ◌∙◌, subst, arith, append-nil, eq-eqb}
+use Rattle.std.specs.Prelude.{Result, Ok, Err, Vec, IsErr, is_some, not, alloc_error}
+use Rattle.std.specs.Result.{IsErrAnd}
 use Rattle.ql_base.specs.declared.limits.Limits.{Limits}
 use Rattle.ql_base.specs.Limits.{usual}
 use Rattle.ql_world.specs.declared.event.Head.{Head}
@@ -9,16 +10,21 @@ use Rattle.ql_code.specs.Code.{Code}
 use Rattle.ql_code.specs.Machine.{Point, Entry, code_machine, code_world}
 use Rattle.ql_replay.specs.Book.{head_in, turn_in, has_feed}
 use Rattle.ql_replay.specs.FirstDiff.{limits_of}
-use Rattle.ql_replay.specs.Replay.{differs, ahead, host_of, is_usable, plain_verdict, headed_verdict, replayed}
-use Rattle.ql_replay.specs.Page.{IsAll, Peeks, first_of}
-use Rattle.ql_replay.specs.declared.page.Next.TheVariants.{Byte}
-use Rattle.ql_replay.specs.Answer.{Answers, IsOpening, head_before}
+use Rattle.ql_replay.specs.Replay.{Verdict, ahead, host_of, is_usable, plain_verdict, headed_verdict, replayed}
+use Rattle.ql_replay.specs.Page.{IsAtEnd, first_of, TakesSome, Hands, Peeks}
+use Rattle.ql_replay.specs.Answer.{Answers, EndsWith, IsOpening, Opens, head_before}
 use Rattle.ql_replay.specs.Running.{Run, host_in, line_in}
 use Rattle.ql_replay.specs.declared.verdict.Verdict.{Verdict as Told}
+use Rattle.ql_replay.specs.declared.verdict.Verdict.TheVariants.{Differs}
 use Rattle.ql_replay.specs.declared.verdict.ReplayFault.{ReplayFault}
+use Rattle.ql_replay.specs.declared.verdict.ReplayFault.TheVariants.{Memory}
+use Rattle.ql_replay.specs.declared.page.Next.{Next}
+use Rattle.ql_replay.specs.declared.page.Next.TheVariants.{Byte, End, Fault}
 use Rattle.ql_replay.proofs.Basics.{if_some, same_number}
-use Rattle.ql_replay.proofs.Holding.{feeds_append, no_feeds, moved}
-use Rattle.ql_replay.proofs.Openings.{headed_is, unusable_is, plain_is}
+use Rattle.ql_replay.proofs.Pages.{none_first, some_first}
+use Rattle.ql_replay.proofs.Handing.{hands_nothing, hands_one, hands_still, hands_none_left}
+use Rattle.ql_replay.proofs.Holding.{moved, settled, ended}
+use Rattle.ql_replay.proofs.Openings.{headed_is, unusable_is, plain_is, unended}
 
 -- ---- the run before its first tick
 
@@ -38,66 +44,61 @@ module _ (r : Run) (code : Code) (names : List (List ℕ)) (h : Head) (c : r.hos
   headed_there : (rest : List ℕ) → headed_verdict names code h rest ≡ ahead (host_in r) (line_in r.texts) turn_in r.host.world 0 [] rest 2
   headed_there rest = rw usable (sym (begun r code names (limits_of h) true c n l w t [] rest 2))
 
-  pub headed_answers : (held : List ℕ) → held ≡ [] → (result : Result Told ReplayFault) (all : List ℕ) (left : Option (List ℕ))
-      → Answers (λ rest. ahead (host_in r) (line_in r.texts) turn_in r.host.world 0 held rest 2) 2 result all left → Answers (λ rest. headed_verdict names code h rest) 2 result all left
-  headed_answers held e result all left x =
-      moved (λ rest. headed_verdict names code h rest) (λ rest. ahead (host_in r) (line_in r.texts) turn_in r.host.world 0 held rest 2) 2 2 [] all (omega arith)
-      (headed_there all ∙ ap (λ (z : List ℕ). ahead (host_in r) (line_in r.texts) turn_in r.host.world 0 z all 2) (sym e)) left result x
+  pub headed_answers : (held : List ℕ) → held ≡ [] → (result : Result Told ReplayFault) (page : List ℕ) (left left' : Option (List ℕ))
+      → Answers (λ rest. ahead (host_in r) (line_in r.texts) turn_in r.host.world 0 held rest 2) 2 result page left left' → Answers (λ rest. headed_verdict names code h rest) 2 result page left left'
+  headed_answers held e result page left left' x =
+      moved (λ rest. headed_verdict names code h rest) (λ rest. ahead (host_in r) (line_in r.texts) turn_in r.host.world 0 held rest 2) 2 2 [] page left page left left' (hands_nothing page left) (omega arith)
+      (λ more. headed_there (page ++ more) ∙ ap (λ (z : List ℕ). ahead (host_in r) (line_in r.texts) turn_in r.host.world 0 z (page ++ more) 2) (sym e)) result x
 
 module _ (r : Run) (code : Code) (names : List (List ℕ)) (c : r.host.code ≡ code) (n : r.host.names ≡ names) (l : r.host.limits ≡ usual) (w : r.host.world ≡ code_world code) (t : r.texts ≡ false) (held : List ℕ) where
-  plain_there : (rest : List ℕ) → plain_verdict names code (held ++ rest) ≡ ahead (host_in r) (line_in r.texts) turn_in r.host.world 0 held rest 1
+  pub plain_there : (rest : List ℕ) → plain_verdict names code (held ++ rest) ≡ ahead (host_in r) (line_in r.texts) turn_in r.host.world 0 held rest 1
   plain_there rest = sym (begun r code names usual false c n l w t held rest 1)
 
-  pub plain_answers : (result : Result Told ReplayFault) (all : List ℕ) (left : Option (List ℕ)) → Answers (λ rest. ahead (host_in r) (line_in r.texts) turn_in r.host.world 0 held rest 1) 1 result all left
-      → Answers (λ rest. plain_verdict names code (held ++ rest)) 1 result all left
-  plain_answers result all left x =
-      moved (λ rest. plain_verdict names code (held ++ rest)) (λ rest. ahead (host_in r) (line_in r.texts) turn_in r.host.world 0 held rest 1) 1 1 [] all (omega arith) (plain_there all) left result x
+-- the same verdict by another function, on all that may come
+pub same_answers : (f g : List ℕ → Verdict) (at now : ℕ) → now ≡ at → ((rest : List ℕ) → f rest ≡ g rest) → (result : Result Told ReplayFault) (page : List ℕ) (left left' : Option (List ℕ))
+    → Answers g now result page left left' → Answers f at result page left left'
+same_answers f g at now e same result page left left' x =
+    moved f g at now [] page left page left left' (hands_nothing page left) (omega (arith, e)) (λ more. same (page ++ more)) result x
 
 -- ---- after the opening
 
-pub first_there : (page : List ℕ) (left : Option (List ℕ)) (rest : List ℕ) (b : ℕ) → IsAll page left rest → first_of page ≡ Some b → (tail : List ℕ) × ((rest ≡ b ∷ tail) × IsAll (drop 1 page) left tail)
-first_there [] left rest b h e = absurd cc
-first_there (x ∷ page) None rest b h e = absurd h
-first_there (x ∷ page) (Some left) rest b h e = let s : x ≡ b = cc in (page ++ left, (h ∙ ap (λ (z : ℕ). z ∷ (page ++ left)) s, refl))
-
-module _ (names : List (List ℕ)) (code : Code) (held page rest all : List ℕ) (left left_now : Option (List ℕ)) (result : Result Told ReplayFault)
-    (clean : has_feed held ≡ false) (whole : all ≡ held ++ rest) (come : IsAll page left rest) (opening : IsOpening held (first_of page) rest) where
-  abbrev Is : Type 0
-  Is = Answers (replayed names code) 1 result all left_now
+module _ (names : List (List ℕ)) (code : Code) (held page : List ℕ) (left left' : Option (List ℕ))
+    (clean : has_feed held ≡ false) (opening : IsOpening held (first_of page) left) where
+  abbrev Is : Result Told ReplayFault → Type 0
+  Is result = Answers (λ rest. replayed names code (held ++ rest)) 1 result page left left'
 
   module _ (feed : first_of page ≡ Some 10) (h : Head) (head : head_in held ≡ Some h) where
-    pub is_headed : ((tail : List ℕ) → IsAll (drop 1 page) left tail → Answers (λ rest. headed_verdict names code h rest) 2 result tail left_now) → Is
-    is_headed answers =
-        let x = first_there page left rest 10 come feed in
-        let tail = x.0 in
-        let e : all ≡ (held ++ 10 ∷ []) ++ tail = whole ∙ (ap (λ (z : List ℕ). held ++ z) x.1.0 ∙ sym (append_assoc held (10 ∷ []) tail)) in
-        let f = feeds_append held (10 ∷ []) in
-        let z = no_feeds held clean in
-        let v : replayed names code ((held ++ 10 ∷ []) ++ tail) ≡ headed_verdict names code h tail = ap (replayed names code) (append_assoc held (10 ∷ []) tail) ∙ headed_is names code held tail clean h head in
-        subst (λ a. Answers (replayed names code) 1 result a left_now) (sym e)
-        (moved (replayed names code) (λ rest. headed_verdict names code h rest) 1 2 (held ++ 10 ∷ []) tail (omega (arith, f, z)) v left_now result (answers tail x.1.1))
+    pub is_headed : (result : Result Told ReplayFault) (after : List ℕ) → after ≡ drop 1 page → Answers (λ rest. headed_verdict names code h rest) 2 result after left left'
+        → Is result
+    is_headed result after e answers =
+        moved (λ rest. replayed names code (held ++ rest)) (λ rest. headed_verdict names code h rest) 1 2 (10 ∷ []) page left after left left'
+        (hands_one [] page left page left (hands_nothing page left) 10 after feed e) (omega arith) (λ more. headed_is names code held (after ++ more) clean h head) result answers
 
-    pub is_unusable : is_usable h ≡ false → replayed names code all ≡ differs 1
+    pub is_unusable : is_usable h ≡ false → Answers (λ rest. replayed names code (held ++ rest)) 1 (Ok (Differs 1)) page left left
     is_unusable u =
-        let x = first_there page left rest 10 come feed in
-        ap (replayed names code) (whole ∙ ap (λ (z : List ℕ). held ++ z) x.1.0) ∙ unusable_is names code held x.0 clean h head u
+        let x = some_first page 10 feed in
+        settled (λ rest. replayed names code (held ++ rest)) 1 [] page left page left (hands_nothing page left) (Differs 1)
+        (λ more c. ap (λ (z : List ℕ). replayed names code (held ++ (z ++ more))) x.1 ∙ unusable_is names code held (x.0 ++ more) clean h head u) tt
 
-  pub is_headless : (first_of page ≡ Some 10 → head_in held ≡ None) → Answers (λ rest. plain_verdict names code (held ++ rest)) 1 result rest left_now → Is
-  is_headless none answers =
-      let z = no_feeds held clean in
-      let v : replayed names code (held ++ rest) ≡ plain_verdict names code (held ++ rest) =
-      plain_is names code held (first_of page) rest clean opening (λ b e. let x = first_there page left rest b come e in (x.0, x.1.0)) none in
-      subst (λ a. Answers (replayed names code) 1 result a left_now) (sym whole)
-      (moved (replayed names code) (λ rest. plain_verdict names code (held ++ rest)) 1 1 held rest (omega (arith, z)) v left_now result answers)
+  -- It goes on without a head line.
+  pub is_headless : (result : Result Told ReplayFault) (b : ℕ) → first_of page ≡ Some b → (first_of page ≡ Some 10 → head_in held ≡ None)
+      → Answers (λ rest. plain_verdict names code (held ++ rest)) 1 result page left left' → Is result
+  is_headless result b some none answers =
+      let x = some_first page b some in
+      let o : (b ≡ 10) ⊎ (200 ≤ length held) = subst (λ (n : Option ℕ). IsOpening held n left) some opening in
+      let n : b ≡ 10 → head_in held ≡ None = λ e. none (some ∙ ap Some e) in
+      moved (λ rest. replayed names code (held ++ rest)) (λ rest. plain_verdict names code (held ++ rest)) 1 1 [] page left page left left' (hands_nothing page left) (omega arith)
+      (λ more. ap (λ (z : List ℕ). replayed names code (held ++ (z ++ more))) x.1
+      ∙ (plain_is names code held b (x.0 ++ more) clean o n ∙ ap (λ (z : List ℕ). plain_verdict names code (held ++ (z ++ more))) (sym x.1))) result answers
 
--- one byte more was taken
-pub took_one : (all held more : List ℕ) (b : ℕ) (page : List ℕ) (left : Option (List ℕ)) (page_now : List ℕ) (left_now : Option (List ℕ))
-    → (rest : List ℕ) × ((all ≡ held ++ rest) × IsAll page left rest) → Peeks (Byte b) page left page_now left_now → more ≡ held ++ b ∷ []
-    → (rest : List ℕ) × ((all ≡ more ++ rest) × IsAll (drop 1 page_now) left_now rest)
-took_one all held more b page left page_now left_now x p e =
-    let come : IsAll page_now left_now x.0 = p.0 x.0 x.1.1 in
-    let y = first_there page_now left_now x.0 b come (ap first_of p.1.1) in
-    (y.0, (x.1.0 ∙ (ap (λ (r : List ℕ). held ++ r) y.1.0 ∙ (sym (append_assoc held (b ∷ []) y.0) ∙ ap (λ (h : List ℕ). h ++ y.0) (sym e))), y.1.1))
+  -- It has ended, and is read no more.
+  pub is_ended : (result : Result Told ReplayFault) → first_of page ≡ None → EndsWith (replayed names code held) result
+      → Answers (λ rest. replayed names code (held ++ rest)) 1 result page left left
+  is_ended result none s =
+      let n = none_first page none in
+      let end : IsAtEnd left = subst (λ (o : Option ℕ). IsOpening held o left) none opening in
+      ended (λ rest. replayed names code (held ++ rest)) 1 [] page left left (hands_none_left [] page left page left (hands_nothing page left) n) end (replayed names code held)
+      (ap (replayed names code) (append-nil held)) result s
 
 pub some_before : (next : Option ℕ) (held : List ℕ) (h : Head) → head_before next held ≡ Some h → (next ≡ Some 10) × (head_in held ≡ Some h)
 some_before None held h e = absurd cc
@@ -108,3 +109,44 @@ some_before (Some b) held h e =
 pub none_before : (next : Option ℕ) (held : List ℕ) → head_before next held ≡ None → next ≡ Some 10 → head_in held ≡ None
 none_before None held e t = absurd cc
 none_before (Some b) held e t = let s : b ≡ 10 = cc in let u : (b == 10) ≡ true = eq-eqb b 10 s in rw u at e
+
+-- where no other bytes come
+module _ (names : List (List ℕ)) (code : Code) where
+  pub alone : (held : List ℕ) (v : Verdict) (result : Result Told ReplayFault) → has_feed held ≡ false → plain_verdict names code (held ++ []) ≡ v → EndsWith v result → EndsWith (replayed names code held) result
+  alone held v result clean e s =
+      let there : replayed names code held ≡ v = unended names code held clean ∙ (ap (plain_verdict names code) (sym (append-nil held)) ∙ e) in
+      subst (λ z. EndsWith z result) (sym there) s
+
+-- what a look at the next byte told
+pub some_next : (next : Option ℕ) (ends : Bool) → is_some next ≡ not ends → ends ≡ false → (b : ℕ) × (next ≡ Some b)
+some_next None false is e = absurd cc
+some_next None true is e = absurd cc
+some_next (Some b) ends is e = (b, refl)
+
+pub none_next : (next : Option ℕ) (ends : Bool) → is_some next ≡ not ends → ends ≡ true → next ≡ None
+none_next None ends is e = refl
+none_next (Some b) true is e = absurd cc
+none_next (Some b) false is e = absurd cc
+
+-- ---- the opening
+
+-- no memory for one byte more
+pub opens_memory : {A : Type 0} (result : Result (Vec ℕ A) ReplayFault) (page : List ℕ) (left : Option (List ℕ)) (page' : List ℕ) (left' : Option (List ℕ))
+    → IsErr result × IsErrAnd result (λ e. e ≡ Memory alloc_error) → TakesSome left left' → Opens result page left page' left'
+opens_memory (Ok held) page left page' left' h s = let no = h.0 in absurd cc
+opens_memory {A} (Err e) page left page' left' h s = subst (λ x. Opens {A = A} (Err x) page left page' left') (sym h.1) s
+
+module _ (held page0 : List ℕ) (left0 : Option (List ℕ)) (page : List ℕ) (left : Option (List ℕ)) (page' : List ℕ) (left' : Option (List ℕ))
+    (h : Hands held page0 left0 page left) where
+  -- A byte is next that is no part of the opening.
+  pub opens_before : (b : ℕ) → Hands [] page left page' left' × (first_of page' ≡ Some b) → (b ≡ 10) ⊎ (200 ≤ length held)
+      → Hands held page0 left0 page' left' × IsOpening held (first_of page') left'
+  opens_before b p o = (hands_still held page0 left0 page left h page' left' p.0, subst (λ (n : Option ℕ). IsOpening held n left') (sym p.1) o)
+
+  -- The book has ended.
+  pub opens_whole : (n : Next) → Peeks n page left page' left' → ((b : ℕ) → n ≡ Byte b → Prim.⊥) → (n ≡ Fault → Prim.⊥)
+      → Hands held page0 left0 page' left' × IsOpening held (first_of page') left'
+  opens_whole (Byte b) p none well = absurd (none b refl)
+  opens_whole End p none well =
+      (hands_still held page0 left0 page left h page' left' p.0, subst (λ (z : List ℕ). IsOpening held (first_of z) left') (sym p.1.0) p.1.1)
+  opens_whole Fault p none well = absurd (well refl)

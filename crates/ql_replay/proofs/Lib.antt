@@ -19,6 +19,7 @@ pub mod TakesTurns
 pub mod TakesLines
 pub mod TakesBytes
 pub mod Late
+pub mod Handing
 pub mod Holding
 pub mod Openings
 pub mod Dues

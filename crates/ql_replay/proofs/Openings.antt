@@ -1,11 +1,10 @@
 -- The first line of a book.
-use Rattle.std.proofs.Common.{◌≡◌, ℕ, ◌<◌, ◌≤◌, ◌==◌, true, false, List, [], ◌∷◌, ◌++◌, length, Option, Some, None, refl, sym, ap, ◌∙◌, subst, ⊎_elim, arith, append_assoc, append-nil, length-append}
+use Rattle.std.proofs.Common.{◌≡◌, ℕ, ◌<◌, ◌≤◌, ◌==◌, true, false, List, [], ◌∷◌, ◌++◌, length, ◌⊎◌, Some, None, refl, sym, ap, ◌∙◌, subst, ⊎_elim, arith, append_assoc, length-append}
 use Rattle.std.proofs.lemmas.Bool.Decides.{nat_tests}
 use Rattle.ql_world.specs.declared.event.Head.{Head}
 use Rattle.ql_code.specs.Code.{Code}
 use Rattle.ql_replay.specs.Book.{Line, lines_in, head_in, has_feed}
 use Rattle.ql_replay.specs.Replay.{differs, is_usable, plain_replayed, plain_verdict, headed_verdict, by_head, lines_replayed, replayed}
-use Rattle.ql_replay.specs.Answer.{IsOpening}
 use Rattle.ql_replay.proofs.Basics.{cases}
 use Rattle.ql_replay.proofs.Feeds.{clean_append}
 use Rattle.ql_replay.proofs.Long.{long_lines_differ}
@@ -25,7 +24,8 @@ module _ (names : List (List ℕ)) (code : Code) where
     no_head : head_in held ≡ None → replayed names code (held ++ 10 ∷ rest) ≡ plain_verdict names code (held ++ 10 ∷ rest)
     no_head e = first_is ∙ (ap (by_head names code (Some held ∷ lines_in rest) (lines_in rest)) e ∙ ap (plain_replayed names code) (sym (line_first held rest clean)))
 
-  unended : (held : List ℕ) → has_feed held ≡ false → replayed names code held ≡ plain_verdict names code held
+  -- No line of the book has ended.
+  pub unended : (held : List ℕ) → has_feed held ≡ false → replayed names code held ≡ plain_verdict names code held
   unended [] clean = refl
   unended (x ∷ xs) clean =
       let i = last_part x xs clean in
@@ -49,20 +49,12 @@ module _ (names : List (List ℕ)) (code : Code) where
       long_line (lines_in (x ∷ (xs ++ b ∷ rest))) i.line i.others (ap lines_in e ∙ i.is) (λ k g. let j : length (x ∷ (xs ++ b ∷ [])) ≤ length k = i.long k g in omega (arith, big, j))
 
   -- The bytes aren't the beginning of a head line.
-  pub plain_is : (held : List ℕ) (next : Option ℕ) (rest : List ℕ) → has_feed held ≡ false → IsOpening held next rest
-      → ((b : ℕ) → next ≡ Some b → (tail : List ℕ) × (rest ≡ b ∷ tail)) → (next ≡ Some 10 → head_in held ≡ None)
-      → replayed names code (held ++ rest) ≡ plain_verdict names code (held ++ rest)
-  plain_is held None rest clean o begins none =
-      let e : held ++ rest ≡ held = ap (λ (r : List ℕ). held ++ r) o ∙ append-nil held in
-      ap (replayed names code) e ∙ (unended held clean ∙ ap (plain_verdict names code) (sym e))
-  plain_is held (Some b) rest clean o begins none =
-      let x = begins b refl in
-      let e : held ++ rest ≡ held ++ b ∷ x.0 = ap (λ (r : List ℕ). held ++ r) x.1 in
-      let there : replayed names code (held ++ b ∷ x.0) ≡ plain_verdict names code (held ++ b ∷ x.0) =
-      ⊎_elim (λ (t : (b == 10) ≡ true). feed x.0 (same_of b t) none)
-      (λ (t : (b == 10) ≡ false). long_held held b x.0 clean t (⊎_elim (λ (s : b ≡ 10). absurd (other b t s)) (λ (l : 200 ≤ length held). l) o))
-      (cases (b == 10)) in
-      ap (replayed names code) e ∙ (there ∙ ap (plain_verdict names code) (sym e))
+  pub plain_is : (held : List ℕ) (b : ℕ) (rest : List ℕ) → has_feed held ≡ false → (b ≡ 10) ⊎ (200 ≤ length held) → (b ≡ 10 → head_in held ≡ None)
+      → replayed names code (held ++ b ∷ rest) ≡ plain_verdict names code (held ++ b ∷ rest)
+  plain_is held b rest clean o none =
+      ⊎_elim (λ (t : (b == 10) ≡ true). feed (same_of b t) none)
+      (λ (t : (b == 10) ≡ false). long_held held b rest clean t (⊎_elim (λ (s : b ≡ 10). absurd (other b t s)) (λ (l : 200 ≤ length held). l) o))
+      (cases (b == 10))
     where
       same_of : (b : ℕ) → (b == 10) ≡ true → b ≡ 10
       same_of b t = grind (arith, nat_tests)
@@ -70,6 +62,6 @@ module _ (names : List (List ℕ)) (code : Code) where
       other : (b : ℕ) → (b == 10) ≡ false → b ≡ 10 → ⊥
       other b t s = grind (arith, nat_tests)
 
-      feed : (tail : List ℕ) → b ≡ 10 → (Some b ≡ Some 10 → head_in held ≡ None) → replayed names code (held ++ b ∷ tail) ≡ plain_verdict names code (held ++ b ∷ tail)
-      feed tail s none =
-          subst (λ (z : ℕ). replayed names code (held ++ z ∷ tail) ≡ plain_verdict names code (held ++ z ∷ tail)) (sym s) (no_head held tail clean (none (ap Some s)))
+      feed : b ≡ 10 → (b ≡ 10 → head_in held ≡ None) → replayed names code (held ++ b ∷ rest) ≡ plain_verdict names code (held ++ b ∷ rest)
+      feed s none =
+          subst (λ (z : ℕ). replayed names code (held ++ z ∷ rest) ≡ plain_verdict names code (held ++ z ∷ rest)) (sym s) (no_head held rest clean (none s))

@@ -1,5 +1,5 @@
 -- The next byte of a book.
-use Rattle.std.proofs.Common.{◌≡◌, ℕ, zero, suc, ◌+◌, ◌-◌, ◌<◌, ◌≤◌, List, [], ◌∷◌, ◌++◌, length, get_or, drop, take, drop-cons, Option, Some, None, refl, sym, ap, ◌∙◌, subst, arith}
+use Rattle.std.proofs.Common.{◌≡◌, ℕ, zero, suc, ◌+◌, ◌-◌, ◌<◌, ◌≤◌, List, [], ◌∷◌, length, get_or, drop, take, drop-cons, Option, Some, None, refl, sym, ap, ◌∙◌, subst, arith}
 use Rattle.ql_base.specs.Outside.{Reads}
 use Rattle.ql_replay.specs.Page.{Fills, first_of}
 
@@ -27,15 +27,10 @@ none_between bytes from to l n =
 
 -- what was read
 pub filled : (room : ℕ) (bytes : List ℕ) (old new : Option (List ℕ)) → 0 < room → Reads room bytes old new → Fills old bytes new
-filled room bytes None None l h = (λ all a. absurd a, λ e all a. absurd a)
+filled room bytes None None l h = (tt, λ e. tt)
 filled room bytes None (Some new) l h = absurd h
 filled room bytes (Some old) None l h = absurd h
-filled room bytes (Some old) (Some new) l h = (
-  λ all a. a ∙ h.0,
-  λ e all a.
-      let none : new ≡ [] = h.1 e l in
-      a ∙ (h.0 ∙ (ap (λ (b : List ℕ). b ++ new) e ∙ none)),
-)
+filled room bytes (Some old) (Some new) l h = (h.0, λ e. h.1 e l)
 
 pub none_first : (page : List ℕ) → first_of page ≡ None → page ≡ []
 none_first [] e = refl

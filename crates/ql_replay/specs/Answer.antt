@@ -8,10 +8,10 @@ use Rattle.ql_replay.specs.Book.{head_in}
 use Rattle.ql_replay.specs.FirstDiff.{FirstDiff}
 use Rattle.ql_replay.specs.Law.{IsRight}
 use Rattle.ql_replay.specs.Replay.{Verdict, same, differs}
-use Rattle.ql_replay.specs.Page.{IsAll, first_of}
+use Rattle.ql_replay.specs.Page.{first_of, Takes, TakesSome, IsAtEnd, MayCome, Hands}
 use Rattle.ql_replay.specs.Following.{feeds}
 use Rattle.ql_replay.specs.declared.follow.Step.{Step}
-use Rattle.ql_replay.specs.declared.follow.Step.TheVariants.{On, Whole, Differs as Parts, Fault}
+use Rattle.ql_replay.specs.declared.follow.Step.TheVariants.{On, End, Differs as Parts, Fault}
 use Rattle.ql_replay.specs.declared.verdict.Verdict.{Verdict as Told}
 use Rattle.ql_replay.specs.declared.verdict.Verdict.TheVariants.{Same, Differs}
 use Rattle.ql_replay.specs.declared.verdict.ReplayFault.{ReplayFault}
@@ -26,6 +26,11 @@ abbrev pub IsReadOut : Told → (left : Option (List ℕ)) → Type 0
 IsReadOut (Same output) left = left ≡ Some []
 IsReadOut (Differs line) left = Unit {0}
 
+-- the same of a book whether or not it tells its bytes
+abbrev pub IsReadToEnd : Told → (left : Option (List ℕ)) → Type 0
+IsReadToEnd (Same output) left = IsAtEnd left
+IsReadToEnd (Differs line) left = Unit {0}
+
 -- A fault of the book is tied to the count of faults. Else the count is as before.
 abbrev pub AfterFaults : Result Told ReplayFault → (old new : ℕ) → Type 0
 AfterFaults (Err Book) old new = HasRisen old new
@@ -36,38 +41,40 @@ abbrev pub AfterStep : {E : Type 0} → Result Step E → (old new : ℕ) → Ty
 AfterStep (Ok Fault) old new = HasRisen old new
 AfterStep answer old new = new ≡ old
 
--- the verdict is that a book is the program's, with this output
-abbrev pub IsSameWith : (output : List ℕ) → Result Told ReplayFault → Type 0
-IsSameWith output (Ok (Same bytes)) = bytes.items ≡ output
-IsSameWith output (Ok (Differs line)) = ⊥
-IsSameWith output (Err Book) = ⊥
-IsSameWith output (Err (Memory e)) = Unit {0}
+-- The book ends here, and this is the verdict on it.
+abbrev pub EndsWith : (verdict : Verdict) → Result Told ReplayFault → Type 0
+EndsWith verdict (Ok v) = verdict ≡ verdict_of v
+EndsWith verdict (Err Book) = ⊥
+EndsWith verdict (Err (Memory e)) = Unit {0}
 
 -- One function tells the verdict by the bytes that are still to come, of which the first stand in this line.
 module _ (verdict : List ℕ → Verdict) (at : ℕ) where
-  -- So much of the bytes was taken. A line that differs comes after the lines that were taken whole.
-  pub record Stops (all : List ℕ) (remains : Option (List ℕ)) : Type 0 where
-    pub taken : List ℕ
-    pub rest : List ℕ
-    pub whole : all ≡ taken ++ rest
-    pub left : remains ≡ Some rest
-    pub later : (k : ℕ) → verdict all ≡ differs k → at + feeds taken ≤ k
+  -- The answer after these bytes. It is the verdict whatever comes yet. After a fault of the book a line that differs
+  -- comes after the lines that were taken whole.
+  abbrev pub Answered : Result Told ReplayFault → (bytes : List ℕ) → (left : Option (List ℕ)) → Type 0
+  Answered (Ok v) bytes left = ((more : List ℕ) → MayCome more left → verdict (bytes ++ more) ≡ verdict_of v) × IsReadToEnd v left
+  Answered (Err Book) bytes left = (more : List ℕ) (k : ℕ) → verdict (bytes ++ more) ≡ differs k → at + feeds bytes ≤ k
+  Answered (Err (Memory e)) bytes left = Unit {0}
 
-  -- the answer on all these bytes
-  abbrev pub Answers : Result Told ReplayFault → (all : List ℕ) → (left : Option (List ℕ)) → Type 0
-  Answers (Ok v) all left = (verdict all ≡ verdict_of v) × IsReadOut v left
-  Answers (Err Book) all left = Stops all left
-  Answers (Err (Memory e)) all left = Unit {0}
+  -- the answer on a book, of which the bytes of the page were read before
+  pub record Answers (answer : Result Told ReplayFault) (page : List ℕ) (left left' : Option (List ℕ)) : Type 0 where
+    pub read : List ℕ
+    pub takes : Takes read left left'
+    pub answered : Answered answer (page ++ read) left'
 
   -- The step along a book led to where the other function tells the verdict, or to an end.
-  module _ (page : List ℕ) (left : Option (List ℕ)) (after : List ℕ → Verdict) (now : ℕ) (page_now : List ℕ) (left_now : Option (List ℕ)) (output : List ℕ) where
-    abbrev pub StepsTo : Step → Type 0
-    StepsTo On =
-        (all : List ℕ) → IsAll page left all
-        → (b : ℕ) × ((rest : List ℕ) × ((all ≡ b ∷ rest) × (IsAll page_now left_now rest × ((now ≡ at + feeds (b ∷ [])) × (verdict all ≡ after rest)))))
-    StepsTo Whole = (all : List ℕ) → IsAll page left all → (left_now ≡ Some []) × (verdict all ≡ same output)
-    StepsTo Parts = (all : List ℕ) → IsAll page left all → verdict all ≡ differs now
-    StepsTo Fault = (all : List ℕ) → IsAll page left all → IsAll [] left_now all × ((now ≡ at) × (verdict all ≡ after all))
+  module _ (page : List ℕ) (left : Option (List ℕ)) (after : List ℕ → Verdict) (now : ℕ) (page' : List ℕ) (left' : Option (List ℕ)) where
+    -- nothing was taken
+    abbrev pub Stays : Type 0
+    Stays = Hands [] page left [] left' × ((now ≡ at) × ((rest : List ℕ) → verdict rest ≡ after rest))
+
+    abbrev pub StepsTo : {E : Type 0} → Result Step E → Type 0
+    StepsTo (Ok On) =
+        (b : ℕ) × (Hands (b ∷ []) page left page' left' × ((now ≡ at + feeds (b ∷ [])) × ((rest : List ℕ) → verdict (b ∷ rest) ≡ after rest)))
+    StepsTo (Ok Parts) = (b : ℕ) × (Hands (b ∷ []) page left page' left' × ((rest : List ℕ) → verdict (b ∷ rest) ≡ differs now))
+    StepsTo (Ok End) = Stays × IsAtEnd left'
+    StepsTo (Ok Fault) = Stays
+    StepsTo (Err e) = TakesSome left left'
 
 -- the verdict is right, where there is one
 abbrev pub IsRightOn : (tells : Limits → List ℕ → Option Story) → (bytes : List ℕ) → Result Told ReplayFault → Type 0
@@ -91,21 +98,29 @@ abbrev pub IsNotPast : (tells : Limits → List ℕ → Option Story) → (bytes
 IsNotPast tells bytes (Err Book) left = IsCutOff tells bytes left
 IsNotPast tells bytes answer left = Unit {0}
 
+-- These bytes were taken of the book, whether or not it tells them, and of them, as of a whole book, the verdict is right.
+-- After a fault of the book no line that was taken whole is the first that differs.
+pub record AnswersTaken (tells : Limits → List ℕ → Option Story) (answer : Result Told ReplayFault) (left left' : Option (List ℕ)) : Type 0 where
+  pub taken : List ℕ
+  pub takes : Takes taken left left'
+  pub right : IsRightOn tells taken answer
+  pub early : IsNotPast tells taken answer (Some [])
+
 -- The bytes before the first line feed, or so many that no head line is as long, or all.
-abbrev pub IsOpening : (held : List ℕ) → (next : Option ℕ) → (rest : List ℕ) → Type 0
-IsOpening held None rest = rest ≡ []
-IsOpening held (Some b) rest = (b ≡ 10) ⊎ (200 ≤ length held)
+abbrev pub IsOpening : (held : List ℕ) → (next : Option ℕ) → (left : Option (List ℕ)) → Type 0
+IsOpening held None left = IsAtEnd left
+IsOpening held (Some b) left = (b ≡ 10) ⊎ (200 ≤ length held)
 
 -- what a first line with these bytes tells, where this comes next
 abbrev pub head_before : (next : Option ℕ) → List ℕ → Option Head
 head_before None held = None
 head_before (Some b) held = if b == 10 then head_in held else None
 
--- These were the first of all the bytes, and the others are still to come. After a fault no line was taken.
-abbrev pub IsOpened : {A : Type 0} → Result (Vec ℕ A) ReplayFault → (page : List ℕ) → (left : Option (List ℕ)) → List ℕ → Type 0
-IsOpened (Ok held) page left all = (rest : List ℕ) × ((all ≡ held.items ++ rest) × (IsAll page left rest × IsOpening held.items (first_of page) rest))
-IsOpened (Err Book) page left all = (taken rest : List ℕ) × ((all ≡ taken ++ rest) × ((left ≡ Some rest) × (feeds taken ≡ 0)))
-IsOpened (Err (Memory e)) page left all = Unit {0}
+-- These were the first bytes. After a fault no line was taken.
+abbrev pub Opens : {A : Type 0} → Result (Vec ℕ A) ReplayFault → (page : List ℕ) → (left : Option (List ℕ)) → (page' : List ℕ) → (left' : Option (List ℕ)) → Type 0
+Opens (Ok held) page left page' left' = Hands held.items page left page' left' × IsOpening held.items (first_of page') left'
+Opens (Err Book) page left page' left' = (taken : List ℕ) × (Hands taken page left [] left' × (feeds taken ≡ 0))
+Opens (Err (Memory e)) page left page' left' = TakesSome left left'
 
 abbrev pub AfterOpening : {A : Type 0} → Result (Vec ℕ A) ReplayFault → (old new : ℕ) → Type 0
 AfterOpening (Err Book) old new = HasRisen old new

@@ -1,15 +1,16 @@
 //! A book is replayed.
 
-ghost use Rattle.std.specs.Prelude.{◌≡◌, ◌≤◌, ◌<◌, ◌++◌, IfSome, ℕ, List, Some, Ok, true, false, length, IfOk};
+ghost use Rattle.std.specs.Prelude.{◌≡◌, ◌≤◌, ◌<◌, ◌++◌, IfSome, ℕ, List, [], Some, true, false, length, IfOk};
 ghost use Rattle.ql_code.specs.Machine.{code_told};
 ghost use Rattle.ql_host.specs.Host.{AreNames};
-ghost use Rattle.ql_replay.specs.Book.{has_feed};
+ghost use Rattle.ql_replay.specs.Book.{has_feed, turn_in};
 ghost use Rattle.ql_replay.specs.FirstDiff.{limits_of};
-ghost use Rattle.ql_replay.specs.Replay.{is_usable, is_within, plain_verdict, headed_verdict, replayed};
-ghost use Rattle.ql_replay.specs.Page.{IsAll, first_of};
-ghost use Rattle.ql_replay.specs.Answer.{Answers, head_before, AfterFaults, IsOpened, AfterOpening, IsRightOn, IsReadOutOn, IsNotPast};
+ghost use Rattle.ql_replay.specs.Replay.{is_usable, is_within, plain_verdict, headed_verdict, replayed, ahead};
+ghost use Rattle.ql_replay.specs.Running.{host_in, line_in};
+ghost use Rattle.ql_replay.specs.Page.{IsAtEnd, first_of};
+ghost use Rattle.ql_replay.specs.Answer.{Answers, AnswersTaken, EndsWith, head_before, AfterFaults, IsOpening, Opens, AfterOpening, IsRightOn, IsReadOutOn, IsNotPast};
 
-use crate::follow::follow;
+use crate::follow::{at_end, follow};
 use crate::follower::Follower;
 use crate::laws::{first_line_is_one, replay_is_right};
 use crate::lines::read_head;
@@ -21,11 +22,13 @@ use ql_base::names::Names;
 use ql_base::outside::Source;
 use ql_code::code::Code;
 use ql_world::event::Head;
-use std::alloc::Global;
+use std::alloc::{AllocError, Global};
 
 /// Tells whether a book is a journal of the code, in either version, and if so what its run printed. If not it tells the
 /// first line at which the book differs from all journals of the code. Reading ends there, so it ends for a book that goes
 /// on without end.
+///
+/// The clause `every` holds of every book, for the bytes that were taken.
 pub fn replay<B: Source>(
     alloc: Global,
     code: Code,
@@ -36,6 +39,7 @@ pub fn replay<B: Source>(
     ensures right { (bytes : List ℕ) → B.left book.old ≡ Some bytes → IsRightOn (code_told names code) bytes result }
     ensures end { (bytes : List ℕ) → B.left book.old ≡ Some bytes → IsReadOutOn result (B.left book.new) }
     ensures early { (bytes : List ℕ) → B.left book.old ≡ Some bytes → IsNotPast (code_told names code) bytes result (B.left book.new) }
+    ensures every { AnswersTaken (code_told names code) result (B.left book.old) (B.left book.new) }
     ensures faults { AfterFaults result (B.faults book.old) (B.faults book.new) }
 {
     replay_is_right();
@@ -53,7 +57,7 @@ fn read_and_follow<B: Source>(
     book: &mut B,
 ) -> Result<Verdict, ReplayFault>
     requires names { AreNames names }
-    ensures answers { (all : List ℕ) → B.left book.old ≡ Some all → Answers (replayed names code) 1 result all (B.left book.new) }
+    ensures answers { Answers (replayed names code) 1 result [] (B.left book.old) (B.left book.new) }
     ensures faults { AfterFaults result (B.faults book.old) (B.faults book.new) }
 {
     let mut page = Page::new();
@@ -69,7 +73,7 @@ fn first_bytes<B: Source>(
     book: &mut B,
     page: &mut Page,
 ) -> Result<Vec<u8>, ReplayFault>
-    ensures opened { (all : List ℕ) → IsAll page.old (B.left book.old) all → IsOpened result page.new (B.left book.new) all }
+    ensures opens { Opens result page.old (B.left book.old) page.new (B.left book.new) }
     ensures clean { IfOk result (λ held. has_feed held.items ≡ false) }
     ensures short { IfOk result (λ held. length held.items ≤ 200) }
     ensures faults { AfterOpening result (B.faults book.old) (B.faults book.new) }
@@ -87,7 +91,7 @@ fn first_bytes<B: Source>(
     }
 }
 
-/// Follows a book whose first bytes are these.
+/// Follows a book whose first bytes are these. Where no byte is left it is at its end, and isn't read once more.
 fn after_opening<B: Source>(
     alloc: Global,
     code: Code,
@@ -99,9 +103,13 @@ fn after_opening<B: Source>(
     requires names { AreNames names }
     requires clean { has_feed held.items ≡ false }
     requires short { length held.items ≤ 200 }
-    ensures answers { (all : List ℕ) → IsOpened (Ok held) page.old (B.left book.old) all → Answers (replayed names code) 1 result all (B.left book.new) }
+    requires opening { IsOpening held.items (first_of page.old) (B.left book.old) }
+    ensures answers { Answers (λ rest. replayed names code (held.items ++ rest)) 1 result page.old (B.left book.old) (B.left book.new) }
     ensures faults { AfterFaults result (B.faults book.old) (B.faults book.new) }
 {
+    if page.first().is_none() {
+        return first_line_alone(alloc, code, names, held);
+    }
     let Some(head) = head_after(page, &held) else {
         return headless(alloc, code, names, held, book, page);
     };
@@ -134,7 +142,7 @@ fn headed<B: Source>(
 ) -> Result<Verdict, ReplayFault>
     requires names { AreNames names }
     requires usable { is_usable head ≡ true }
-    ensures answers { (all : List ℕ) → IsAll page.old (B.left book.old) all → Answers (λ rest. headed_verdict names code head rest) 2 result all (B.left book.new) }
+    ensures answers { Answers (λ rest. headed_verdict names code head rest) 2 result page.old (B.left book.old) (B.left book.new) }
     ensures faults { AfterFaults result (B.faults book.old) (B.faults book.new) }
 {
     let run = match Run::begin(alloc, code, names, limits_of(head), true) {
@@ -163,21 +171,52 @@ fn headless<B: Source>(
     requires names { AreNames names }
     requires clean { has_feed held.items ≡ false }
     requires short { length held.items ≤ 200 }
-    ensures answers { (all : List ℕ) → IsAll page.old (B.left book.old) all → Answers (λ rest. plain_verdict names code (held.items ++ rest)) 1 result all (B.left book.new) }
+    ensures answers { Answers (λ rest. plain_verdict names code (held.items ++ rest)) 1 result page.old (B.left book.old) (B.left book.new) }
     ensures faults { AfterFaults result (B.faults book.old) (B.faults book.new) }
 {
-    let run = match Run::begin(alloc, code, names, Limits::usual(), false) {
-        Ok(run) => run,
-        Err(e) => return Err(ReplayFault::Memory(e)),
-    };
-    let follower = Follower {
+    match begin_plain(alloc, code, names, held) {
+        Ok(follower) => follow(book, page, follower),
+        Err(e) => Err(ReplayFault::Memory(e)),
+    }
+}
+
+/// The verdict on a book of these bytes and no others.
+fn first_line_alone(
+    alloc: Global,
+    code: Code,
+    names: Names,
+    held: Vec<u8>,
+) -> Result<Verdict, ReplayFault>
+    requires names { AreNames names }
+    requires clean { has_feed held.items ≡ false }
+    ensures { EndsWith (replayed names code held.items) result }
+{
+    match begin_plain(alloc, code, names, held) {
+        Ok(follower) => at_end(follower),
+        Err(e) => Err(ReplayFault::Memory(e)),
+    }
+}
+
+/// Before the first line of a book of version 1, of which these bytes were taken.
+fn begin_plain(
+    alloc: Global,
+    code: Code,
+    names: Names,
+    held: Vec<u8>,
+) -> Result<Follower<Run>, AllocError>
+    requires names { AreNames names }
+    ensures verdict { IfOk result (λ f. (rest : List ℕ) → plain_verdict names code (held.items ++ rest) ≡ ahead (host_in f.host) (line_in f.host.texts) turn_in f.host.host.world f.seen f.held.items rest f.at) }
+    ensures held { IfOk result (λ f. f.held.items ≡ held.items) }
+    ensures at { IfOk result (λ f. f.at ≡ 1) }
+{
+    let run = Run::begin(alloc, code, names, Limits::usual(), false)?;
+    Ok(Follower {
         host: run,
         held,
         seen: 0,
         at: 1,
         alloc,
-    };
-    follow(book, page, follower)
+    })
 }
 
 /// The limits that a head line tells. The quantum and the policy, which it doesn't tell, change no run.

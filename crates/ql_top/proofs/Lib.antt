@@ -12,6 +12,8 @@ mod Rounds
 mod Printable
 mod Ran
 mod Refusals
+mod Replays
+mod Spans
 mod Stopping
 mod Telling
 pub mod Counted

@@ -37,3 +37,7 @@ part_then_front parts i d x y z h p q = subst (λ t. AppendsFront t x z) (next_p
 
 pub front_of_part : (parts : List (Bor (List ℕ))) (i : ℕ) (d : Bor (List ℕ)) (x z : Option (List ℕ)) → i < length parts → AppendsFront (get_or parts i d).now x z → AppendsFront (joined (drop i parts)) x z
 front_of_part parts i d x z h p = subst (λ t. AppendsFront t x z) (next_part parts i d h) (front_of_first (get_or parts i d).now (joined (drop (i + 1) parts)) x z p)
+
+-- five texts, from the left and from the right
+pub from_the_right : (a b c d e : List ℕ) → a ++ (b ++ (c ++ (d ++ e))) ≡ a ++ b ++ c ++ d ++ e
+from_the_right a b c d e = sym (append_assoc (a ++ b ++ c) d e ∙ append_assoc (a ++ b) c (d ++ e) ∙ append_assoc a b (c ++ (d ++ e)))

@@ -20,7 +20,7 @@ use Rattle.ql_top.specs.PlainWords.{IsNumber, Given, usual_options}
 use Rattle.ql_top.specs.Words.{asked, command_named, options_at, number_at, number_in, policy_at, policy_named, places_at}
 use Rattle.ql_top.specs.declared.words.Command.{Command}
 use Rattle.ql_top.specs.declared.words.Command.TheVariants as commands
-use Rattle.ql_top.specs.declared.words.Command.TheVariants.{Run, Show, Check, Gen, Trial}
+use Rattle.ql_top.specs.declared.words.Command.TheVariants.{Run, Show, Check, Gen, Trial, Replay, Span}
 use Rattle.ql_top.specs.declared.words.Options.{Options}
 use Rattle.ql_top.proofs.Plain.{lookup, row, option_rule, has_is, not_there, one_more_row, other_row, at, rows_so_far, no_dashes, no_long, no_short}
 use Rattle.ql_top.proofs.PlainOptions.{takes_number, IsTaken, Says, number_of, policy_of, Tell, HasAll, all_taken}
@@ -217,6 +217,14 @@ enters_list : Enters (codes "list") (shape_named (codes "list"))
 unfolding walked
 enters_list = record { walks = refl; fault = refl; found = refl }
 
+enters_replay : Enters (codes "replay") (shape_named (codes "replay"))
+unfolding walked
+enters_replay = record { walks = refl; fault = refl; found = refl }
+
+enters_span : Enters (codes "span") (shape_named (codes "span"))
+unfolding walked
+enters_span = record { walks = refl; fault = refl; found = refl }
+
 enters_run : Enters (codes "run") (shape_named (codes "run"))
 unfolding walked
 enters_run = record { walks = refl; fault = refl; found = refl }
@@ -240,6 +248,14 @@ show_asks = asks (codes "show") (shape_named (codes "show")) [] Show enters_show
 pub list_asks : asked (codes "list" ∷ []) ≡ Some commands.List
 unfolding walk_fault defaults_fault
 list_asks = asks (codes "list") (shape_named (codes "list")) [] commands.List enters_list refl refl
+
+pub replay_asks : asked (codes "replay" ∷ []) ≡ Some Replay
+unfolding walk_fault defaults_fault
+replay_asks = asks (codes "replay") (shape_named (codes "replay")) [] Replay enters_replay refl refl
+
+pub span_asks : asked (codes "span" ∷ []) ≡ Some Span
+unfolding walk_fault defaults_fault
+span_asks = asks (codes "span") (shape_named (codes "span")) [] Span enters_span refl refl
 
 -- the run's own words
 run_has_all : HasAll (shape_named (codes "run")) []

@@ -8,15 +8,15 @@ use Rattle.ql_world.specs.declared.event.Stop.{Stop}
 use Rattle.ql_host.specs.Host.{Told}
 use Rattle.ql_meaning.specs.Legal.{Legal}
 use Rattle.ql_top.specs.Run.{IsRun}
-use Rattle.ql_top.specs.Top.{IsSource, Writes, of_run, of_trial, of_show, of_check, of_list, HasSource, IsDone, EndsBy, IsSilent, Tells}
+use Rattle.ql_top.specs.Top.{IsSource, Writes, of_run, of_trial, of_show, of_check, of_list, HasSource, LeavesJournal, IsDone, EndsBy, IsSilent, Tells}
 use Rattle.ql_top.specs.Words.{limits_of}
 use Rattle.ql_top.proofs.Answering.{Ends}
 use Rattle.ql_top.specs.declared.words.Command.{Command}
 use Rattle.ql_top.specs.declared.words.Command.TheVariants as commands
-use Rattle.ql_top.specs.declared.words.Command.TheVariants.{Run, Show, Check, Gen, Trial}
+use Rattle.ql_top.specs.declared.words.Command.TheVariants.{Run, Show, Check, Gen, Trial, Replay, Span}
 use Rattle.ql_top.specs.declared.status.Ended.{Ended}
 use Rattle.ql_top.specs.declared.status.Status.{Status}
-use Rattle.ql_top.specs.declared.status.Status.TheVariants.{Done, Refused, Words, Fault, Budget, Deadlock, Limit, NoMemory, ReadFault, WriteFault}
+use Rattle.ql_top.specs.declared.status.Status.TheVariants.{Done, Refused, Words, Fault, Budget, Deadlock, Limit, NoMemory, ReadFault, WriteFault, Differs}
 
 none_and_some : {A : Type 0} (o : Option A) (x : A) → o ≡ None → o ≡ Some x → Prim.⊥
 none_and_some o x e f = let bad : None ≡ Some x = sym e ∙ f in absurd cc
@@ -41,10 +41,13 @@ told_written Show names forms p o stop output lines told of_show e = absurd cc
 told_written Check names forms p o stop output lines told of_check e = absurd cc
 told_written commands.List names forms p o stop output lines told of_list e = absurd cc
 told_written (Gen seed size) names forms p o stop output lines told h e = elim h [ ]
+told_written Replay names forms p o stop output lines told h e = elim h [ ]
+told_written Span names forms p o stop output lines told h e = elim h [ ]
 
 module _ (command : Command) (ended : Ended) (b : List ℕ) (o o' j j' : Option (List ℕ)) (told : Told) (e : ended.told ≡ Some told) where
   told_done : (left : Option (List ℕ)) → IsDone command ended b left o o' j j' → IsOf (limits_of command) b told
-  told_done left d = (d.program, d.source, told_written command d.source.names d.source.forms d.program ended.told d.stop d.output d.lines told d.writes e)
+  told_done left d =
+      let s = d.of.source in (d.of.program, s, told_written command s.names s.forms d.of.program ended.told d.stop d.output d.lines told d.writes e)
 
   silent_told : (command : Command) (status : Status) → Tells (Some command) status ended.told → IsSilent status → Prim.⊥
   silent_told (Run options) status t s = none_and_some ended.told told (t.1 s) e
@@ -53,6 +56,8 @@ module _ (command : Command) (ended : Ended) (b : List ℕ) (o o' j j' : Option 
   silent_told Check status t s = none_and_some ended.told told t e
   silent_told commands.List status t s = none_and_some ended.told told t e
   silent_told (Gen seed size) status t s = none_and_some ended.told told t e
+  silent_told Replay status t s = none_and_some ended.told told t e
+  silent_told Span status t s = none_and_some ended.told told t e
 
   told_by : (status : Status) (left : Option (List ℕ)) → EndsBy status command ended b left o o' j j' → Tells (Some command) status ended.told
       → IsOf (limits_of command) b told
@@ -66,6 +71,19 @@ module _ (command : Command) (ended : Ended) (b : List ℕ) (o o' j j' : Option 
   told_by NoMemory left d t = absurd (silent_told command NoMemory t tt)
   told_by ReadFault left d t = absurd (silent_told command ReadFault t tt)
   told_by WriteFault left d t = told_done left d
+  told_by (Differs line) left d t = absurd d
+
+-- a command of whose run a host has told writes its journal
+pub tells_run : (command : Command) (status : Status) (o : Option Told) (told : Told) → o ≡ Some told → Tells (Some command) status o
+    → LeavesJournal (Some command) → Prim.⊥
+tells_run (Run options) status o told e t l = l
+tells_run (Trial seed size options) status o told e t l = l
+tells_run Check status o told e t l = none_and_some o told t e
+tells_run Show status o told e t l = none_and_some o told t e
+tells_run commands.List status o told e t l = none_and_some o told t e
+tells_run (Gen seed size) status o told e t l = none_and_some o told t e
+tells_run Replay status o told e t l = none_and_some o told t e
+tells_run Span status o told e t l = none_and_some o told t e
 
 -- of every source
 pub legal_told : (asked : Option Command) (ended : Ended) (o o' j j' : Option (List ℕ))
@@ -81,6 +99,8 @@ legal_told asked ended o o' j j' ends t = of_told ended.told refl
         (told_by (Trial seed size options) ended a.0 o o' j j' told e ended.status a.1.0 a.1.1 t).2.legal
     of_asked told e (Some (Run options)) h t =
         let a = ends (Run options) h tt in (told_by (Run options) ended a.0 o o' j j' told e ended.status a.1.0 a.1.1 t).2.legal
+    of_asked told e (Some Replay) h t = absurd (none_and_some ended.told told t e)
+    of_asked told e (Some Span) h t = absurd (none_and_some ended.told told t e)
     of_asked told e (Some Show) h t = absurd (none_and_some ended.told told t e)
     of_asked told e (Some Check) h t = absurd (none_and_some ended.told told t e)
     of_asked told e (Some commands.List) h t = absurd (none_and_some ended.told told t e)

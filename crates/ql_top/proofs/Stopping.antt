@@ -13,10 +13,10 @@ use Rattle.ql_top.specs.Top.{Refusal, IsSource, IsTold, Writes, of_run, of_trial
 use Rattle.ql_top.specs.Words.{limits_of}
 use Rattle.ql_top.specs.declared.words.Command.{Command}
 use Rattle.ql_top.specs.declared.words.Command.TheVariants as commands
-use Rattle.ql_top.specs.declared.words.Command.TheVariants.{Run, Show, Check, Gen, Trial}
+use Rattle.ql_top.specs.declared.words.Command.TheVariants.{Run, Show, Check, Gen, Trial, Replay, Span}
 use Rattle.ql_top.specs.declared.status.Ended.{Ended}
 use Rattle.ql_top.specs.declared.status.Status.{Status}
-use Rattle.ql_top.specs.declared.status.Status.TheVariants.{Done, Refused, Words, Fault, Budget, Deadlock, Limit, NoMemory, ReadFault, WriteFault}
+use Rattle.ql_top.specs.declared.status.Status.TheVariants.{Done, Refused, Words, Fault, Budget, Deadlock, Limit, NoMemory, ReadFault, WriteFault, Differs}
 
 -- what is told of the run of a command
 run_told : (command : Command) (names : List (List ℕ)) (forms : Forms) (p : Program) (told : Option Told) (stop : stop.Stop) (output lines : List ℕ)
@@ -28,6 +28,8 @@ run_told Check names forms p told stop output lines runs w = absurd (runs tt)
 run_told Show names forms p told stop output lines runs w = absurd (runs tt)
 run_told commands.List names forms p told stop output lines runs w = absurd (runs tt)
 run_told (Gen seed size) names forms p told stop output lines runs w = absurd (runs tt)
+run_told Replay names forms p told stop output lines runs w = absurd (runs tt)
+run_told Span names forms p told stop output lines runs w = absurd (runs tt)
 
 module _ (one_program : (b : List ℕ) (p q : Program) → IsSource b p → IsSource b q → p ≡ q)
     (same_names : (b : List ℕ) (p q : Program) (i : IsSource b p) (j : IsSource b q) → i.names ≡ j.names)
@@ -46,10 +48,10 @@ module _ (one_program : (b : List ℕ) (p q : Program) → IsSource b p → IsSo
 
   run_stop : (d : IsDone command ended b left o o' j j') → d.stop ≡ story.stop
   run_stop d =
-      let t = run_told command d.source.names d.source.forms d.program ended.told d.stop d.output d.lines runs d.writes in
+      let t = run_told command d.of.source.names d.of.source.forms d.of.program ended.told d.stop d.output d.lines runs d.writes in
       stop_told ended.told d.stop t.0 d.lines
-      (subst (λ ns. IsTold ns p (limits_of command) ended.told d.stop t.0 d.lines) (same_names b d.program p d.source i)
-      (subst (λ q. IsTold d.source.names q (limits_of command) ended.told d.stop t.0 d.lines) (one_program b d.program p d.source i) t.1))
+      (subst (λ ns. IsTold ns p (limits_of command) ended.told d.stop t.0 d.lines) (same_names b d.of.program p d.of.source i)
+      (subst (λ q. IsTold d.of.source.names q (limits_of command) ended.told d.stop t.0 d.lines) (one_program b d.of.program p d.of.source i) t.1))
 
   run_stops : (status : Status) (d : IsDone command ended b left o o' j j') → status ≡ status_of d.stop → StopsOrFails status story.stop
   run_stops status d s = inl (s ∙ ap status_of (run_stop d))
@@ -68,3 +70,4 @@ module _ (one_program : (b : List ℕ) (p q : Program) → IsSource b p → IsSo
   stops_as_told NoMemory s d = inr (inl refl)
   stops_as_told ReadFault s d = inr (inr (inl refl))
   stops_as_told WriteFault s d = inr (inr (inr refl))
+  stops_as_told (Differs line) s d = absurd d

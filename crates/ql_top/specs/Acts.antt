@@ -1,5 +1,5 @@
 -- What the parts of a call say to each other.
-use Rattle.std.specs.Prelude.{◌≡◌, ◌⊎◌, ◌++◌, ℕ, true, List, [], Option, Some, None, Result, Ok, Err}
+use Rattle.std.specs.Prelude.{◌≡◌, ℕ, true, List, [], Option, Some, None, Result, Ok, Err}
 use Rattle.ql_base.specs.declared.limits.Limits.{Limits}
 use Rattle.ql_forms.specs.Form.{Forms}
 use Rattle.ql_expand.specs.Core.{Program}
@@ -11,7 +11,9 @@ use Rattle.ql_code.specs.Code.{Code}
 use Rattle.ql_code.specs.Machine.{code_planned}
 use Rattle.ql_host.specs.Host.{Told, IsTold}
 use Rattle.ql_compile.specs.Compile.{compiled}
-use Rattle.ql_top.specs.Reading.{Takes}
+use Rattle.ql_top.specs.Reading.{HoldsTaken, HoldsFurther}
+use Rattle.ql_top.specs.Replay.{AnswersReplay}
+use Rattle.ql_top.specs.Span.{AnswersSpan}
 use Rattle.ql_top.specs.Top.{Answers, Unfit, Makes, Writes}
 use Rattle.ql_top.specs.declared.top.Texts.{Texts}
 use Rattle.ql_top.specs.declared.top.Texts.TheVariants.{Ran, Tried, Alone}
@@ -26,12 +28,16 @@ pub record IsCodeOf (code : Code) (names : List (List ℕ)) (forms : Forms) : Ty
   pub makes : Makes names forms program
   pub code_is : code ≡ compiled program
 
--- the code of forms, or what is wrong with them, or want of memory
+-- what is wrong with forms, or want of memory
+abbrev pub StopsText : Status → List (List ℕ) → Forms → Type 0
+StopsText (Refused kind at) names forms = Unfit names forms kind at
+StopsText NoMemory names forms = Prim.Unit {0}
+StopsText status names forms = Prim.⊥
+
+-- the code of forms, or why there is none
 abbrev pub Accepts : Result Code Status → List (List ℕ) → Forms → Type 0
 Accepts (Ok code) names forms = IsCodeOf code names forms
-Accepts (Err (Refused kind at)) names forms = Unfit names forms kind at
-Accepts (Err NoMemory) names forms = Prim.Unit {0}
-Accepts (Err status) names forms = Prim.⊥
+Accepts (Err status) names forms = StopsText status names forms
 
 abbrev pub told_in : Texts → Option Told
 told_in (Ran told lines) = Some told
@@ -68,16 +74,25 @@ pub record HasTexts (command : Command) (texts : Texts) (names : List (List ℕ)
   pub makes : Makes names forms program
   pub writes : Writes command names forms program (told_in texts) (stop_in texts) (output_in texts) (lines_in texts)
 
--- the texts of a command on these forms, or what is wrong with them, or want of memory
+-- the texts of a command on these forms, or why there are none
 abbrev pub Gives : Command → Result Texts Status → List (List ℕ) → Forms → Type 0
 Gives command (Ok texts) names forms = HasTexts command texts names forms
-Gives command (Err (Refused kind at)) names forms = Unfit names forms kind at
-Gives command (Err NoMemory) names forms = Prim.Unit {0}
-Gives command (Err status) names forms = Prim.⊥
+Gives command (Err status) names forms = StopsText status names forms
 
--- Some bytes were taken, and with what is left, where the source tells that, or with nothing more, the answer is right for
--- them.
-pub record AnswersSome (command : Command) (ended : Ended) (left left' out out' journal journal' : Option (List ℕ)) : Type 0 where
-  pub taken : List ℕ
-  pub takes : Takes taken left left'
-  pub answers : (rest : List ℕ) → (left' ≡ Some rest) ⊎ (rest ≡ []) → Answers command ended (taken ++ rest) (Some rest) out out' journal journal'
+-- The answer is right for the bytes that were taken and more.
+abbrev pub AnswersSome : Command → Ended → (left left' out out' journal journal' : Option (List ℕ)) → Type 0
+AnswersSome command ended left left' out out' journal journal' = HoldsFurther (λ bytes rest. Answers command ended bytes rest out out' journal journal') left left'
+
+-- What is said of a book holds of its bytes, where it tells them, and of those that were taken.
+pub record HoldsOfBook (Holds : (held : List ℕ) → (rest : Option (List ℕ)) → Type 0) (book book' : Option (List ℕ)) : Type 0 where
+  pub told : (held : List ℕ) → book ≡ Some held → Holds held book'
+  pub taken : HoldsTaken Holds book book'
+
+-- the answer of `replay` is right for the bytes of the source that were taken and more
+abbrev pub ReplaysSome : Status → (left left' book book' out out' : Option (List ℕ)) → Type 0
+ReplaysSome status left left' book book' out out' =
+    HoldsFurther (λ bytes rest. HoldsOfBook (λ held more. AnswersReplay status bytes rest held more out out') book book') left left'
+
+-- the answer of `span` is right
+abbrev pub SpansSome : Status → (book book' out out' : Option (List ℕ)) → Type 0
+SpansSome status book book' out out' = HoldsFurther (λ held rest. AnswersSpan status held rest out out') book book'

@@ -77,6 +77,13 @@ top_app = record {
 abbrev pub with_command : App → App → App
 with_command app sub = with_subcommand app sub.top
 
+-- one more command, which takes no words of its own
+abbrev pub with_plain : App → List ℕ → App
+with_plain app name = with_command app (plain_app name)
+
+-- the commands that look at a source or a book
+abbrev pub with_looks : App → App
+with_looks app = with_plain (with_plain (with_plain (with_plain (with_plain app (codes "check")) (codes "show")) (codes "list")) (codes "replay")) (codes "span")
+
 abbrev pub ql_app : App
-ql_app = with_command (with_command (with_command (with_command (with_command (with_command top_app
-    (plain_app (codes "check"))) (plain_app (codes "show"))) (plain_app (codes "list"))) run_app) gen_app) trial_app
+ql_app = with_command (with_command (with_command (with_looks top_app) run_app) gen_app) trial_app

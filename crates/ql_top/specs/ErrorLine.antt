@@ -4,7 +4,7 @@ use Rattle.std.specs.Borrow.{Bor}
 use Rattle.std.specs.Fmt.{decimal}
 use Rattle.ql_world.specs.Text.{fault_name, limit_name}
 use Rattle.ql_top.specs.declared.status.Status.{Status}
-use Rattle.ql_top.specs.declared.status.Status.TheVariants.{Done, Refused, Words, Fault, Budget, Deadlock, Limit, NoMemory, ReadFault, WriteFault}
+use Rattle.ql_top.specs.declared.status.Status.TheVariants.{Done, Refused, Words, Fault, Budget, Deadlock, Limit, NoMemory, ReadFault, WriteFault, Differs}
 use Rattle.ql_top.specs.Texts.{refusal_name}
 
 -- texts one after another
@@ -23,3 +23,4 @@ error_line (Limit kind) = codes "ql: limit " ++ limit_name kind ++ codes "\n"
 error_line NoMemory = codes "ql: no memory\n"
 error_line ReadFault = codes "ql: read fault\n"
 error_line WriteFault = codes "ql: write fault\n"
+error_line (Differs line) = codes "ql: differs at line " ++ decimal line ++ codes "\n"

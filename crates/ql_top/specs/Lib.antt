@@ -1,9 +1,12 @@
 pub mod Acts
+pub mod Book
 pub mod CommandLine
 pub mod ErrorLine
 pub mod PlainWords
 pub mod Reading
+pub mod Replay
 pub mod Run
+pub mod Span
 pub mod Status
 pub mod Summary
 pub mod Texts

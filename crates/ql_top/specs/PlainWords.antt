@@ -7,7 +7,7 @@ use Rattle.ql_base.specs.Limits.{usual}
 use Rattle.ql_base.specs.declared.limits.Policy.TheVariants.{Old, New, Turn}
 use Rattle.ql_top.specs.declared.words.Command.{Command}
 use Rattle.ql_top.specs.declared.words.Command.TheVariants as commands
-use Rattle.ql_top.specs.declared.words.Command.TheVariants.{Run, Show, Check, Gen, Trial}
+use Rattle.ql_top.specs.declared.words.Command.TheVariants.{Run, Show, Check, Gen, Trial, Replay, Span}
 use Rattle.ql_top.specs.declared.words.Options.{Options}
 
 -- the text is digits alone, which write this number, and it is one from least to most
@@ -53,3 +53,5 @@ pub data IsPlain : List (List ℕ) → Command → Type 0 where
   trial : {first second : List ℕ} {seed size : ℕ} {words : List (List ℕ)} {options : Options} → IsNumber 0 18446744073709551615 first seed
       → IsNumber 1 3000 second size → Given [] words usual_options options
       → IsPlain (codes "trial" ∷ first ∷ second ∷ words) (Trial seed size options)
+  replay : IsPlain (codes "replay" ∷ []) Replay
+  span : IsPlain (codes "span" ∷ []) Span

@@ -4,7 +4,7 @@ use Rattle.ql_base.specs.declared.numbers.Pid.{Pid}
 use Rattle.ql_world.specs.declared.event.Stop.{Stop}
 use Rattle.ql_world.specs.declared.event.Stop.TheVariants as stops
 use Rattle.ql_top.specs.declared.status.Status.{Status}
-use Rattle.ql_top.specs.declared.status.Status.TheVariants.{Done, Refused, Words, Fault, Budget, Deadlock, Limit, NoMemory, ReadFault, WriteFault}
+use Rattle.ql_top.specs.declared.status.Status.TheVariants.{Done, Refused, Words, Fault, Budget, Deadlock, Limit, NoMemory, ReadFault, WriteFault, Differs}
 
 abbrev pub pid : ℕ → Pid
 pid p = record { 0 = p }
@@ -28,3 +28,4 @@ code_of (Limit kind) = 6
 code_of NoMemory = 7
 code_of ReadFault = 8
 code_of WriteFault = 9
+code_of (Differs line) = 10

@@ -2,7 +2,7 @@
 use Rattle.std.specs.Prelude.{ℕ, ◌==◌, if◌then◌else◌, List, codes}
 
 -- the name of a kind of refusal
-abbrev pub refusal_name : ℕ → List ℕ
+unfoldable pub refusal_name : ℕ → List ℕ
 refusal_name kind =
     if kind == 1 then codes "badbyte"
     else (if kind == 2 then codes "strayclose"
@@ -21,4 +21,7 @@ refusal_name kind =
     else (if kind == 17 then codes "shadow"
     else (if kind == 18 then codes "toomany"
     else (if kind == 19 then codes "codetoolong"
-    else codes "badshape"))))))))))))))))
+    else (if kind == 20 then codes "badline"
+    else (if kind == 21 then codes "nostop"
+    else (if kind == 22 then codes "bigbook"
+    else codes "badshape")))))))))))))))))))

@@ -21,17 +21,17 @@ use Rattle.ql_compile.specs.Compile.{compiled}
 use Rattle.ql_compile.specs.Laws.{IsTooLong}
 use Rattle.ql_read.specs.TextFault.{TextFault}
 use Rattle.ql_top.specs.ErrorLine.{error_line}
-use Rattle.ql_top.specs.Reading.{Takes, IsCutShort}
+use Rattle.ql_top.specs.Reading.{IsCutShort, HoldsTaken}
 use Rattle.ql_top.specs.Run.{IsRun}
 use Rattle.ql_top.specs.Status.{status_of}
 use Rattle.ql_top.specs.Summary.{summary}
 use Rattle.ql_top.specs.declared.words.Command.{Command}
 use Rattle.ql_top.specs.declared.words.Command.TheVariants as commands
-use Rattle.ql_top.specs.declared.words.Command.TheVariants.{Run, Show, Check, Gen, Trial}
+use Rattle.ql_top.specs.declared.words.Command.TheVariants.{Run, Show, Check, Gen, Trial, Replay, Span}
 use Rattle.ql_top.specs.declared.words.Options.{Options}
 use Rattle.ql_top.specs.declared.status.Ended.{Ended}
 use Rattle.ql_top.specs.declared.status.Status.{Status}
-use Rattle.ql_top.specs.declared.status.Status.TheVariants.{Refused, Words, NoMemory, ReadFault, WriteFault}
+use Rattle.ql_top.specs.declared.status.Status.TheVariants.{Done, Refused, Words, NoMemory, ReadFault, WriteFault, Differs}
 
 -- the bytes have no fault and spell these forms, by numbers among these names
 pub record IsText (bytes : List ℕ) (names : List (List ℕ)) (forms : Forms) : Type 0 where
@@ -116,22 +116,32 @@ abbrev pub IsCutOff : (output lines : List ℕ) → (out out' journal journal' :
 IsCutOff output lines out out' journal journal' =
     (AppendsFront output out out' × (journal' ≡ journal)) ⊎ (Appends output out out' × AppendsFront lines journal journal')
 
+-- The whole text is written, or a call failed, which cut it off.
+abbrev pub Shows : Status → (text : List ℕ) → (out out' : Option (List ℕ)) → Type 0
+Shows Done text out out' = Appends text out out'
+Shows WriteFault text out out' = AppendsFront text out out'
+Shows status text out out' = Prim.⊥
+
 -- Both texts are written, and the status is that of the stop; or a call of output or journal failed, which cut them off.
 abbrev pub Written : Status → stop.Stop → (output lines : List ℕ) → (out out' journal journal' : Option (List ℕ)) → Type 0
 Written WriteFault stop output lines out out' journal journal' = IsCutOff output lines out out' journal journal'
 Written status stop output lines out out' journal journal' =
     (status ≡ status_of stop) × (Appends output out out' × Appends lines journal journal')
 
--- the whole source was read, nothing refuses it, and the texts of the command are written
-pub record IsDone (command : Command) (ended : Ended) (bytes : List ℕ) (left out out' journal journal' : Option (List ℕ)) : Type 0 where
+-- the whole source was read, it is a program's, and nothing refuses it
+pub record IsAccepted (bytes : List ℕ) (left : Option (List ℕ)) : Type 0 where
   pub program : Program
   pub source : IsSource bytes program
   pub accepted : (kind at : ℕ) → Refusal bytes kind at → Prim.⊥
   pub none_left : left ≡ Some []
+
+-- the source is accepted, and the texts of the command are written
+pub record IsDone (command : Command) (ended : Ended) (bytes : List ℕ) (left out out' journal journal' : Option (List ℕ)) : Type 0 where
+  pub of : IsAccepted bytes left
   pub stop : stop.Stop
   pub output : List ℕ
   pub lines : List ℕ
-  pub writes : Writes command source.names source.forms program ended.told stop output lines
+  pub writes : Writes command of.source.names of.source.forms of.program ended.told stop output lines
   pub written : Written ended.status stop output lines out out' journal journal'
 
 -- how a command ends with this status
@@ -140,6 +150,7 @@ EndsBy (Refused kind at) command ended bytes left out out' journal journal' = Is
 EndsBy Words command ended bytes left out out' journal journal' = Prim.⊥
 EndsBy NoMemory command ended bytes left out out' journal journal' = Prim.Unit {0}
 EndsBy ReadFault command ended bytes left out out' journal journal' = IsCutShort (Some bytes) left
+EndsBy (Differs line) command ended bytes left out out' journal journal' = Prim.⊥
 EndsBy status command ended bytes left out out' journal journal' = IsDone command ended bytes left out out' journal journal'
 
 -- what a command that makes something of a source answers for these bytes, some of which may be left
@@ -147,25 +158,28 @@ abbrev pub Answers : Command → Ended → (bytes : List ℕ) → (left out out'
 Answers command ended bytes left out out' journal journal' = EndsBy ended.status command ended bytes left out out' journal journal'
 
 -- The answer is right for the bytes that were taken, whether or not the source tells them.
-pub record AnswersTaken (command : Command) (ended : Ended) (left left' out out' journal journal' : Option (List ℕ)) : Type 0 where
-  pub taken : List ℕ
-  pub takes : Takes taken left left'
-  pub answers : Answers command ended taken (Some []) out out' journal journal'
+abbrev pub AnswersTaken : Command → Ended → (left left' out out' journal journal' : Option (List ℕ)) → Type 0
+AnswersTaken command ended left left' out out' journal journal' = HoldsTaken (λ bytes rest. Answers command ended bytes rest out out' journal journal') left left'
 
--- a command that reads the source of the call
+-- a command that makes something of the source of the call alone
 abbrev pub ReadsSource : Command → Type 0
 ReadsSource (Gen seed size) = Prim.⊥
 ReadsSource (Trial seed size options) = Prim.⊥
+ReadsSource Replay = Prim.⊥
+ReadsSource Span = Prim.⊥
 ReadsSource command = Prim.Unit {0}
 
--- a command that makes something of a source
+-- a command that makes something of a source alone
 abbrev pub HasSource : Command → Type 0
 HasSource (Gen seed size) = Prim.⊥
+HasSource Replay = Prim.⊥
+HasSource Span = Prim.⊥
 HasSource command = Prim.Unit {0}
 
 -- The source of a command: what is left in the source of the call, or in a trial the text that is generated.
 abbrev pub IsSourceOf : Command → (left : Option (List ℕ)) → (bytes : List ℕ) → Type 0
 IsSourceOf (Gen seed size) left bytes = Prim.⊥
+IsSourceOf Span left bytes = Prim.⊥
 IsSourceOf (Trial seed size options) left bytes = bytes ≡ gen_text seed size
 IsSourceOf command left bytes = left ≡ Some bytes
 
@@ -184,7 +198,14 @@ abbrev pub LeavesSource : Option Command → Type 0
 LeavesSource None = Prim.Unit {0}
 LeavesSource (Some (Gen seed size)) = Prim.Unit {0}
 LeavesSource (Some (Trial seed size options)) = Prim.Unit {0}
+LeavesSource (Some Span) = Prim.Unit {0}
 LeavesSource command = Prim.⊥
+
+-- the words ask for nothing that reads the book
+abbrev pub LeavesBook : Option Command → Type 0
+LeavesBook (Some Replay) = Prim.⊥
+LeavesBook (Some Span) = Prim.⊥
+LeavesBook command = Prim.Unit {0}
 
 -- the words ask for nothing that runs a program
 abbrev pub LeavesJournal : Option Command → Type 0
@@ -214,6 +235,7 @@ IsSilent (Refused kind at) = Prim.Unit {0}
 IsSilent Words = Prim.Unit {0}
 IsSilent NoMemory = Prim.Unit {0}
 IsSilent ReadFault = Prim.Unit {0}
+IsSilent (Differs line) = Prim.Unit {0}
 IsSilent status = Prim.⊥
 
 -- Of a run and of a trial a host has told, unless output and journal hold nothing new. Of any other command none has.

@@ -15,7 +15,7 @@ use Rattle.ql_base.specs.declared.limits.Policy.TheVariants.{Old, New, Turn}
 use Rattle.ql_top.specs.CommandLine.{ql_app}
 use Rattle.ql_top.specs.declared.words.Command.{Command}
 use Rattle.ql_top.specs.declared.words.Command.TheVariants as commands
-use Rattle.ql_top.specs.declared.words.Command.TheVariants.{Run, Show, Check, Gen, Trial}
+use Rattle.ql_top.specs.declared.words.Command.TheVariants.{Run, Show, Check, Gen, Trial, Replay, Span}
 use Rattle.ql_top.specs.declared.words.Options.{Options}
 
 abbrev pub texts_of : List (Bor (List ℕ)) → List (List ℕ)
@@ -68,7 +68,9 @@ command_named name rows =
     else (if bytes_eq name (codes "list") then Some commands.List
     else (if bytes_eq name (codes "run") then run_at rows
     else (if bytes_eq name (codes "gen") then gen_at rows
-    else (if bytes_eq name (codes "trial") then trial_at rows else None)))))
+    else (if bytes_eq name (codes "trial") then trial_at rows
+    else (if bytes_eq name (codes "replay") then Some Replay
+    else (if bytes_eq name (codes "span") then Some Span else None)))))))
 
 -- the limits of the command's run, where it has one
 abbrev pub limits_of : Command → Limits

@@ -6,7 +6,7 @@ ghost use Rattle.clap.specs.Kinds.{FailsBy};
 ghost use Rattle.clap.specs.Simple.{app_of, with_rule, HasMatchesOf};
 ghost use Rattle.clap.specs.Walk.{rule_of};
 ghost use Rattle.clap.specs.declared.builder.command.Command.TheViews.{out-Command as fields_of};
-ghost use Rattle.ql_top.specs.CommandLine.{ql_app, top_app, plain_app, run_app, gen_app, trial_app, with_options, with_places, workers_rule, budget_rule, cells_rule, quantum_rule, policy_rule, seed_rule, size_rule};
+ghost use Rattle.ql_top.specs.CommandLine.{ql_app, top_app, plain_app, with_plain, with_looks, run_app, gen_app, trial_app, with_options, with_places, workers_rule, budget_rule, cells_rule, quantum_rule, policy_rule, seed_rule, size_rule};
 
 use clap::{Arg, ArgMatches, Command, Error, value_parser};
 use std::alloc::{AllocError, Global};
@@ -156,18 +156,37 @@ fn base<'a>(alloc: Global) -> Command<'a>
         .disable_version_flag(true)
 }
 
+/// The command with one more, which takes no words of its own.
+fn with_plain<'a>(
+    alloc: Global,
+    command: Command<'a>,
+    name: &'a str,
+) -> Result<Command<'a>, AllocError>
+    ensures app { IfOk result (λ c. app_of c ≡ with_plain (app_of command.entry) name.entry.now) }
+{
+    let added = command.subcommand(plain(alloc, name))?;
+    Ok(added)
+}
+
+/// The command with those that look at a source or a book.
+fn with_looks<'a>(alloc: Global, command: Command<'a>) -> Result<Command<'a>, AllocError>
+    ensures app { IfOk result (λ c. app_of c ≡ with_looks (app_of command.entry)) }
+{
+    let first = with_plain(alloc, command, "check")?;
+    let second = with_plain(alloc, first, "show")?;
+    let third = with_plain(alloc, second, "list")?;
+    let fourth = with_plain(alloc, third, "replay")?;
+    let fifth = with_plain(alloc, fourth, "span")?;
+    Ok(fifth)
+}
+
 fn ql<'a>(alloc: Global) -> Result<Command<'a>, AllocError>
     ensures app { IfOk result (λ c. app_of c ≡ ql_app) }
 {
-    let check = plain(alloc, "check");
-    let show = plain(alloc, "show");
-    let list = plain(alloc, "list");
     let run = run(alloc)?;
     let generator = generator(alloc)?;
     let trial = trial(alloc)?;
-    let command = base(alloc).subcommand(check)?;
-    let command = command.subcommand(show)?;
-    let command = command.subcommand(list)?;
+    let command = with_looks(alloc, base(alloc))?;
     let command = command.subcommand(run)?;
     let command = command.subcommand(generator)?;
     let command = command.subcommand(trial)?;

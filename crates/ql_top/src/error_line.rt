@@ -52,6 +52,10 @@ pub fn write_error_line<E: Sink>(err: &mut E, status: Status) -> Result<(), Fail
         Status::NoMemory => write_text(err, b"ql: no memory\n"),
         Status::ReadFault => write_text(err, b"ql: read fault\n"),
         Status::WriteFault => write_text(err, b"ql: write fault\n"),
+        Status::Differs { line } => {
+            let line = digits.format(line).as_bytes();
+            write_parts(err, &[b"ql: differs at line ", line, b"\n"])
+        }
     }
 }
 

@@ -28,10 +28,12 @@ pub enum Status {
     Limit { kind: LimitKind },
     /// Want of memory.
     NoMemory,
-    /// A call of the source failed.
+    /// A call of the source or of the book failed.
     ReadFault,
     /// A call of the output or of the journal failed.
     WriteFault,
+    /// The book is no journal of the program: this line, from 1, is the first at which it differs from all of them.
+    Differs { line: u64 },
 }
 
 /// How a call ended, and what a host told of the run, where there was one.
@@ -56,6 +58,7 @@ pub fn code_of(status: &Status) -> u8
         Status::NoMemory => 7,
         Status::ReadFault => 8,
         Status::WriteFault => 9,
+        Status::Differs { .. } => 10,
     }
 }
 

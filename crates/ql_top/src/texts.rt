@@ -38,6 +38,7 @@ pub fn limit_name(kind: LimitKind) -> &'static [u8]
 }
 
 /// The name of a kind of refusal.
+#[tactic(auto, unfolding(crate::specs::Texts::refusal_name))]
 pub fn refusal_name(kind: u8) -> &'static [u8]
     ensures { result.now ≡ refusal_name kind }
 {
@@ -59,6 +60,9 @@ pub fn refusal_name(kind: u8) -> &'static [u8]
         17 => b"shadow",
         18 => b"toomany",
         19 => b"codetoolong",
+        20 => b"badline",
+        21 => b"nostop",
+        22 => b"bigbook",
         _ => b"badshape",
     }
 }

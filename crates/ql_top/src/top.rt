@@ -12,13 +12,15 @@ ghost use Rattle.ql_host.specs.Host.{Told, AreNames};
 ghost use Rattle.ql_meaning.specs.Legal.{Legal};
 ghost use Rattle.ql_meaning.specs.Meaning.{program_told, program_planned};
 ghost use Rattle.ql_compile.specs.Compile.{compiled};
-ghost use Rattle.ql_top.specs.Acts.{AnswersSome, Gives, IsRunOf, told_in, stop_in, output_in, lines_in};
+ghost use Rattle.ql_top.specs.Acts.{AnswersSome, ReplaysSome, SpansSome, Gives, IsRunOf, told_in, stop_in, output_in, lines_in};
 ghost use Rattle.ql_top.specs.PlainWords.{IsPlain};
-ghost use Rattle.ql_top.specs.Reading.{ReadsAll, ReadFaults};
+ghost use Rattle.ql_top.specs.Reading.{ReadsAll, HoldsTaken, RisesBy, ReadFaults};
+ghost use Rattle.ql_top.specs.Replay.{AnswersReplay};
 ghost use Rattle.ql_top.specs.Run.{CleansUpAlong};
+ghost use Rattle.ql_top.specs.Span.{AnswersSpan};
 ghost use Rattle.ql_top.specs.Status.{status_of};
 ghost use Rattle.ql_top.specs.Summary.{summary};
-ghost use Rattle.ql_top.specs.Top.{Makes, Refusal, IsSource, IsSourceOf, HasSource, ReadsSource, LeavesSource, LeavesJournal, IsCutOff, Written, Answers, AnswersTaken, AnswersTrial, IsAnswer, IsGenerated, StopsOrFails, IsSilent, Tells, WriteFaults, SaysStatus};
+ghost use Rattle.ql_top.specs.Top.{Makes, Refusal, IsSource, IsSourceOf, HasSource, ReadsSource, LeavesSource, LeavesBook, LeavesJournal, IsCutOff, Written, Answers, AnswersTaken, AnswersTrial, IsAnswer, IsGenerated, StopsOrFails, IsSilent, Tells, WriteFaults, SaysStatus};
 ghost use Rattle.ql_top.specs.Words.{asked, texts_of, limits_of, IsInRange, IsSize, IsAsked};
 ghost use Rattle.ql_top.specs.declared.words.Command.{Command};
 ghost use Rattle.ql_top.specs.declared.words.Options.{Options};
@@ -30,7 +32,9 @@ use crate::laws::{
     programs_are_accepted, refused_at_most_once,
 };
 use crate::reading::read_text;
+use crate::replay::answer_replay;
 use crate::show::lines_of;
+use crate::span::answer_span;
 use crate::status::{Ended, Status, status_of};
 use crate::summary::write_summary;
 use crate::words::{Command, Options, asked};
@@ -56,13 +60,13 @@ use std::alloc::{AllocError, Global};
 #[cfg(test)]
 mod tests;
 
-/// Does what the words ask for: reads the source or generates one, and writes output, a journal, and a
-/// line on `err` where not all went well. A run is that of one worker, however many are asked for,
-/// under the limits of the words.
+/// Does what the words ask for: reads the source or generates one, or reads a book, and writes output, a
+/// journal, and a line on `err` where not all went well. A run is that of one worker, however many are
+/// asked for, under the limits of the words.
 ///
-/// It always returns. A source that doesn't tell its bytes, as a file, is answered as one in memory
-/// with the bytes that were taken from it. `book` is for a journal to run along; no command reads one
-/// yet.
+/// It always returns. A source or a book that doesn't tell its bytes, as a file, is answered as one in
+/// memory with the bytes that were taken from it. The book is a journal, which `replay` follows along
+/// the source, and of which `span` tells the work.
 pub fn one<S: Source, B: Source, O: Sink, J: Sink, E: Sink>(
     alloc: Global,
     words: &[&str],
@@ -99,6 +103,22 @@ pub fn one<S: Source, B: Source, O: Sink, J: Sink, E: Sink>(
     ensures generated { (seed size : ℕ) → asked (texts_of words.now) ≡ Some (Command.Gen seed size)
         → IsGenerated result.status seed size (O.held out.old) (O.held out.new) (J.held journal.old) (J.held journal.new) }
 
+    // Of `replay` the source is refused as that of any command. Else the book is followed along its program: it is one of the
+    // program's journals, and the output of that run is written; or it isn't, and the status tells the first line at which it
+    // differs from all of them. That holds of every source and book, for the bytes that were taken.
+    ensures replayed { (bytes held : List ℕ) → asked (texts_of words.now) ≡ Some Command.Replay → S.left source.old ≡ Some bytes → B.left book.old ≡ Some held
+        → AnswersReplay result.status bytes (S.left source.new) held (B.left book.new) (O.held out.old) (O.held out.new) }
+    ensures every_replay { asked (texts_of words.now) ≡ Some Command.Replay
+        → HoldsTaken (λ bytes left. HoldsTaken (λ held rest. AnswersReplay result.status bytes left held rest (O.held out.old) (O.held out.new))
+        (B.left book.old) (B.left book.new)) (S.left source.old) (S.left source.new) }
+
+    // Of `span` the book is refused for its length, or else for its first line outside the grammar, or else for want of a stop
+    // line. Else the three lines of its work, its span and its chain are written. That holds of every book, too.
+    ensures spanned { (held : List ℕ) → asked (texts_of words.now) ≡ Some Command.Span → B.left book.old ≡ Some held
+        → AnswersSpan result.status held (B.left book.new) (O.held out.old) (O.held out.new) }
+    ensures every_span { asked (texts_of words.now) ≡ Some Command.Span
+        → HoldsTaken (λ held rest. AnswersSpan result.status held rest (O.held out.old) (O.held out.new)) (B.left book.old) (B.left book.new) }
+
     // A host has told of the run just where there is one. Of that run the schedule is the one of one
     // worker, the journal is legal, and the killed only clean up.
     ensures told { Tells (asked (texts_of words.now)) result.status result.told }
@@ -124,10 +144,11 @@ pub fn one<S: Source, B: Source, O: Sink, J: Sink, E: Sink>(
 
     // Where the words ask for something and no fault of an end rose, what came of the command is the answer, or want of memory.
     ensures complete { (command : Command) → asked (texts_of words.now) ≡ Some command → (HasRisen (S.faults source.old) (S.faults source.new) → ⊥)
-        → (HasRisen (O.faults out.old) (O.faults out.new) → ⊥) → (HasRisen (J.faults journal.old) (J.faults journal.new) → ⊥) → IsAnswer result.status }
+        → (HasRisen (B.faults book.old) (B.faults book.new) → ⊥) → (HasRisen (O.faults out.old) (O.faults out.new) → ⊥)
+        → (HasRisen (J.faults journal.old) (J.faults journal.new) → ⊥) → IsAnswer result.status }
 
     // The counts of faults rise just where a fault is the answer.
-    ensures read_faults { ReadFaults result.status (S.faults source.old) (S.faults source.new) }
+    ensures read_faults { ReadFaults result.status (S.faults source.old) (S.faults source.new) (B.faults book.old) (B.faults book.new) }
     ensures write_faults { WriteFaults result.status (O.faults out.old) (O.faults out.new) (J.faults journal.old) (J.faults journal.new) }
 
     // What is written, and what is left alone.
@@ -136,24 +157,24 @@ pub fn one<S: Source, B: Source, O: Sink, J: Sink, E: Sink>(
     ensures quiet { result.status ≡ Status.Done → (E.held err.new ≡ E.held err.old) × (E.faults err.new ≡ E.faults err.old) }
     ensures no_source { LeavesSource (asked (texts_of words.now)) → (S.left source.new ≡ S.left source.old) × (S.faults source.new ≡ S.faults source.old) }
     ensures no_journal { LeavesJournal (asked (texts_of words.now)) → (J.held journal.new ≡ J.held journal.old) × (J.faults journal.new ≡ J.faults journal.old) }
-    ensures no_book { (B.left book.new ≡ B.left book.old) × (B.faults book.new ≡ B.faults book.old) }
+    ensures no_book { LeavesBook (asked (texts_of words.now)) → (B.left book.new ≡ B.left book.old) × (B.faults book.new ≡ B.faults book.old) }
 {
-    let _ = book;
     // Facts that the clauses rest on; the calls do nothing.
     plain_words_ask();
     programs_are_accepted();
     at_most_one_program();
     one_planned_schedule();
-    let ended = answer(alloc, words, source, out, journal);
+    let ended = answer(alloc, words, source, book, out, journal);
     let _ = write_error_line(err, ended.status);
     ended
 }
 
 /// The answer, before its line is written.
-fn answer<S: Source, O: Sink, J: Sink>(
+fn answer<S: Source, B: Source, O: Sink, J: Sink>(
     alloc: Global,
     words: &[&str],
     source: &mut S,
+    book: &mut B,
     out: &mut O,
     journal: &mut J,
 ) -> Ended
@@ -165,25 +186,30 @@ fn answer<S: Source, O: Sink, J: Sink>(
         → AnswersTrial seed size options result (O.held out.old) (O.held out.new) (J.held journal.old) (J.held journal.new) }
     ensures generated { (seed size : ℕ) → asked (texts_of words.now) ≡ Some (Command.Gen seed size)
         → IsGenerated result.status seed size (O.held out.old) (O.held out.new) (J.held journal.old) (J.held journal.new) }
+    ensures replayed { asked (texts_of words.now) ≡ Some Command.Replay
+        → ReplaysSome result.status (S.left source.old) (S.left source.new) (B.left book.old) (B.left book.new) (O.held out.old) (O.held out.new) }
+    ensures spanned { asked (texts_of words.now) ≡ Some Command.Span → SpansSome result.status (B.left book.old) (B.left book.new) (O.held out.old) (O.held out.new) }
     ensures told { Tells (asked (texts_of words.now)) result.status result.told }
-    ensures read_faults { ReadFaults result.status (S.faults source.old) (S.faults source.new) }
+    ensures read_faults { ReadFaults result.status (S.faults source.old) (S.faults source.new) (B.faults book.old) (B.faults book.new) }
     ensures write_faults { WriteFaults result.status (O.faults out.old) (O.faults out.new) (J.faults journal.old) (J.faults journal.new) }
     ensures silent { IsSilent result.status → (O.held out.new ≡ O.held out.old) × (J.held journal.new ≡ J.held journal.old) }
     ensures no_source { LeavesSource (asked (texts_of words.now)) → (S.left source.new ≡ S.left source.old) × (S.faults source.new ≡ S.faults source.old) }
     ensures no_journal { LeavesJournal (asked (texts_of words.now)) → (J.held journal.new ≡ J.held journal.old) × (J.faults journal.new ≡ J.faults journal.old) }
+    ensures no_book { LeavesBook (asked (texts_of words.now)) → (B.left book.new ≡ B.left book.old) × (B.faults book.new ≡ B.faults book.old) }
 {
     match asked(alloc, words) {
-        Ok(Some(command)) => answer_command(alloc, command, source, out, journal),
+        Ok(Some(command)) => answer_command(alloc, command, source, book, out, journal),
         Ok(None) => untold(Status::Words),
         Err(_) => untold(Status::NoMemory),
     }
 }
 
 /// The answer of a command.
-fn answer_command<S: Source, O: Sink, J: Sink>(
+fn answer_command<S: Source, B: Source, O: Sink, J: Sink>(
     alloc: Global,
     command: Command,
     source: &mut S,
+    book: &mut B,
     out: &mut O,
     journal: &mut J,
 ) -> Ended
@@ -195,12 +221,16 @@ fn answer_command<S: Source, O: Sink, J: Sink>(
         → AnswersTrial seed size options result (O.held out.old) (O.held out.new) (J.held journal.old) (J.held journal.new) }
     ensures generated { (seed size : ℕ) → command ≡ Command.Gen seed size
         → IsGenerated result.status seed size (O.held out.old) (O.held out.new) (J.held journal.old) (J.held journal.new) }
+    ensures replayed { command ≡ Command.Replay
+        → ReplaysSome result.status (S.left source.old) (S.left source.new) (B.left book.old) (B.left book.new) (O.held out.old) (O.held out.new) }
+    ensures spanned { command ≡ Command.Span → SpansSome result.status (B.left book.old) (B.left book.new) (O.held out.old) (O.held out.new) }
     ensures told { Tells (Some command) result.status result.told }
-    ensures read_faults { ReadFaults result.status (S.faults source.old) (S.faults source.new) }
+    ensures read_faults { ReadFaults result.status (S.faults source.old) (S.faults source.new) (B.faults book.old) (B.faults book.new) }
     ensures write_faults { WriteFaults result.status (O.faults out.old) (O.faults out.new) (J.faults journal.old) (J.faults journal.new) }
     ensures silent { IsSilent result.status → (O.held out.new ≡ O.held out.old) × (J.held journal.new ≡ J.held journal.old) }
     ensures no_source { LeavesSource (Some command) → (S.left source.new ≡ S.left source.old) × (S.faults source.new ≡ S.faults source.old) }
     ensures no_journal { LeavesJournal (Some command) → (J.held journal.new ≡ J.held journal.old) × (J.faults journal.new ≡ J.faults journal.old) }
+    ensures no_book { LeavesBook (Some command) → (B.left book.new ≡ B.left book.old) × (B.faults book.new ≡ B.faults book.old) }
 {
     match command {
         Command::Gen { seed, size } => answer_gen(alloc, seed, size, out, journal),
@@ -209,6 +239,8 @@ fn answer_command<S: Source, O: Sink, J: Sink>(
             size,
             options,
         } => answer_trial(alloc, seed, size, options, out, journal),
+        Command::Replay => untold(answer_replay(alloc, source, book, out)),
+        Command::Span => untold(answer_span(alloc, book, out)),
         Command::Check | Command::Show | Command::List | Command::Run(_) => {
             answer_source(alloc, command, source, out, journal)
         }
@@ -228,7 +260,7 @@ fn answer_source<S: Source, O: Sink, J: Sink>(
     ensures words { result.status ≡ Status.Words → ⊥ }
     ensures answer { AnswersSome command result (S.left source.old) (S.left source.new) (O.held out.old) (O.held out.new) (J.held journal.old) (J.held journal.new) }
     ensures told { Tells (Some command) result.status result.told }
-    ensures read_faults { ReadFaults result.status (S.faults source.old) (S.faults source.new) }
+    ensures read_faults { RisesBy result.status (S.faults source.old) (S.faults source.new) }
     ensures write_faults { WriteFaults result.status (O.faults out.old) (O.faults out.new) (J.faults journal.old) (J.faults journal.new) }
     ensures silent { IsSilent result.status → (O.held out.new ≡ O.held out.old) × (J.held journal.new ≡ J.held journal.old) }
     ensures no_journal { LeavesJournal (Some command) → (J.held journal.new ≡ J.held journal.old) × (J.faults journal.new ≡ J.faults journal.old) }
@@ -371,8 +403,8 @@ fn texts_of(alloc: Global, command: Command, text: Text) -> Result<Texts, Status
                 size,
                 options,
             } => texts_of_trial(alloc, seed, size, options, text.names, code),
-            // It reads no source.
-            Command::Gen { .. } => unreachable!(),
+            // They make nothing of a source alone.
+            Command::Gen { .. } | Command::Replay | Command::Span => unreachable!(),
         },
         Err(status) => Err(status),
     }

@@ -36,6 +36,10 @@ pub enum Command {
         size: u32,
         options: Options,
     },
+    /// Tells whether the book is a journal of the source, and else the first line at which it differs from all of them.
+    Replay,
+    /// Writes the work, the span and a heaviest chain of the journal that is the book.
+    Span,
 }
 
 /// How a source is run.
@@ -93,6 +97,8 @@ fn command_named(name: &str, matches: &ArgMatches) -> Option<Command>
         "run" => run_in(matches),
         "gen" => gen_in(matches),
         "trial" => trial_in(matches),
+        "replay" => Some(Command::Replay),
+        "span" => Some(Command::Span),
         _ => None,
     }
 }

@@ -1,8 +1,10 @@
 //! A whole text is written.
 
-ghost use Rattle.std.specs.Prelude.{◌≡◌, ◌≤◌, ◌<◌, ◌+◌, [], IfOk, OnOk, OnErr, length, take, drop};
+ghost use Rattle.std.specs.Prelude.{◌≡◌, ◌≤◌, ◌<◌, ◌+◌, ℕ, [], IfOk, OnOk, OnErr, length, take, drop};
 ghost use Rattle.ql_base.specs.Outside.{HasRisen, Appends, AppendsFront};
+ghost use Rattle.ql_top.specs.Top.{Shows, WriteFaults};
 
+use crate::status::Status;
 use ql_base::outside::{Failed, Sink};
 
 /// The greatest number of bytes that one call of a sink is offered.
@@ -25,6 +27,17 @@ pub fn write_text<S: Sink>(sink: &mut S, text: &[u8]) -> Result<(), Failed>
         }
     }
     Ok(())
+}
+
+/// Writes the output of a command that goes no other way. The status is done, where all of it was taken.
+pub fn write_output<O: Sink>(out: &mut O, output: &[u8]) -> Status
+    ensures shows { Shows result output.now (O.held out.old) (O.held out.new) }
+    ensures faults { (count : ℕ) → WriteFaults result (O.faults out.old) (O.faults out.new) count count }
+{
+    match write_text(out, output) {
+        Ok(()) => Status::Done,
+        Err(Failed) => Status::WriteFault,
+    }
 }
 
 // One call, with the next bytes from this place on.

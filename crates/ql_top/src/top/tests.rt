@@ -281,6 +281,163 @@ fn failing_ends_are_told(rt: HostRuntime) -> Result<(), AllocError> {
     fails(&rt, 0, 2, Status::WriteFault)
 }
 
+/// A call that reads a book, and what must come of it.
+struct Reading {
+    name: &'static str,
+    words: &'static [&'static str],
+    source: &'static [u8],
+    book: &'static [u8],
+    status: Status,
+    out: &'static [u8],
+    err: &'static [u8],
+}
+
+/// The journal of `(print (+ 1 2))`, in both versions.
+const SUM: &[u8] =
+    b"qlisp 2 2000000 1000000 65535 16777216\nturn 1 5\nexit 1 0\nend 1 ok\nstop done\n";
+
+const PLAIN_SUM: &[u8] = b"turn 1 5\nexit 1 0\nend 1 ok\nstop done\n";
+
+const BOOKS: &[Reading] = &[
+    Reading {
+        name: "its own journal",
+        words: &["replay"],
+        source: b"(print (+ 1 2))",
+        book: SUM,
+        status: Status::Done,
+        out: b"3\n",
+        err: b"",
+    },
+    Reading {
+        name: "its own journal, of version 1",
+        words: &["replay"],
+        source: b"(print (+ 1 2))",
+        book: PLAIN_SUM,
+        status: Status::Done,
+        out: b"3\n",
+        err: b"",
+    },
+    Reading {
+        name: "another stop",
+        words: &["replay"],
+        source: b"(print (+ 1 2))",
+        book: b"turn 1 5\nexit 1 0\nend 1 ok\nstop budget\n",
+        status: Status::Differs { line: 4 },
+        out: b"",
+        err: b"ql: differs at line 4\n",
+    },
+    Reading {
+        name: "a shorter turn, where nobody else can step",
+        words: &["replay"],
+        source: b"(print (+ 1 2))",
+        book: b"turn 1 4\nexit 1 0\nend 1 ok\nstop done\n",
+        status: Status::Differs { line: 1 },
+        out: b"",
+        err: b"ql: differs at line 1\n",
+    },
+    Reading {
+        name: "an empty book",
+        words: &["replay"],
+        source: b"(print (+ 1 2))",
+        book: b"",
+        status: Status::Differs { line: 1 },
+        out: b"",
+        err: b"ql: differs at line 1\n",
+    },
+    Reading {
+        name: "a book without its stop line",
+        words: &["replay"],
+        source: b"(print (+ 1 2))",
+        book: b"turn 1 5\nexit 1 0\nend 1 ok\n",
+        status: Status::Differs { line: 4 },
+        out: b"",
+        err: b"ql: differs at line 4\n",
+    },
+    Reading {
+        name: "a source that is refused, whose book isn't read",
+        words: &["replay"],
+        source: b"(print x)",
+        book: PLAIN_SUM,
+        status: Status::Refused { kind: 12, at: 7 },
+        out: b"",
+        err: b"ql: refused unbound at 7\n",
+    },
+    Reading {
+        name: "the span of a sum",
+        words: &["span"],
+        source: b"",
+        book: PLAIN_SUM,
+        status: Status::Done,
+        out: b"work 5\nspan 5\nchain 1\n",
+        err: b"",
+    },
+    Reading {
+        name: "the span of a stop",
+        words: &["span"],
+        source: b"",
+        book: b"stop deadlock\n",
+        status: Status::Done,
+        out: b"work 0\nspan 0\nchain\n",
+        err: b"",
+    },
+    Reading {
+        name: "a turn of no ticks",
+        words: &["span"],
+        source: b"",
+        book: b"turn 1 0\n",
+        status: Status::Refused { kind: 20, at: 1 },
+        out: b"",
+        err: b"ql: refused badline at 1\n",
+    },
+    Reading {
+        name: "no stop line",
+        words: &["span"],
+        source: b"",
+        book: b"turn 1 5\nexit 1 0\n",
+        status: Status::Refused { kind: 21, at: 2 },
+        out: b"",
+        err: b"ql: refused nostop at 2\n",
+    },
+];
+
+/// Makes the call of a reading with ends that give and take so many bytes a call.
+fn read(rt: &(impl AllocGlobal + Abort), case: &Reading, piece: usize) -> Result<(), AllocError>
+    requires { 1 ≤ piece }
+{
+    let alloc = rt.alloc();
+    let bytes = Vec::from_slice(alloc, case.source)?;
+    let mut source = MemSource::new(bytes, piece, Vec::new(alloc));
+    let lines = Vec::from_slice(alloc, case.book)?;
+    let mut book = MemSource::new(lines, piece, Vec::new(alloc));
+    let mut out = MemSink::new(alloc, 1000, piece, Vec::new(alloc))?;
+    let mut journal = MemSink::new(alloc, 1000, piece, Vec::new(alloc))?;
+    let mut err = MemSink::new(alloc, 1000, piece, Vec::new(alloc))?;
+    let ended = one(
+        alloc,
+        case.words,
+        &mut source,
+        &mut book,
+        &mut out,
+        &mut journal,
+        &mut err,
+    );
+    let name = case.name;
+    assert_eq!(rt; ended.status, case.status, "{name}");
+    assert_eq!(rt; out.bytes(), case.out, "{name}");
+    assert_eq!(rt; journal.bytes(), b"".as_slice(), "{name}");
+    assert_eq!(rt; err.bytes(), case.err, "{name}");
+    Ok(())
+}
+
+#[test]
+fn books_are_answered_as_told(rt: HostRuntime) -> Result<(), AllocError> {
+    for case in BOOKS {
+        read(&rt, case, 1000)?;
+        read(&rt, case, 1)?;
+    }
+    Ok(())
+}
+
 /// Blanks without an end.
 #[derive(Drop)]
 struct Blanks;

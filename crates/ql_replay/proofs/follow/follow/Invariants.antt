@@ -1,8 +1,7 @@
-use Rattle.std.proofs.Common.{◌≡◌, ◌≤◌, ◌<◌, ◌-◌, ◌*◌, ◌^◌, ℕ, List, false, length}
+use Rattle.std.proofs.Common.{◌≡◌, ◌≤◌, ◌<◌, ◌-◌, ◌*◌, ◌^◌, false, length}
 use Rattle.ql_replay.specs.Book.{turn_in, has_feed}
 use Rattle.ql_replay.specs.Replay.{ahead}
 use Rattle.ql_replay.specs.Following.{rank}
-use Rattle.ql_replay.specs.Page.{IsAll}
 use Rattle.ql_replay.proofs.Holding.{Holding}
 use Rattle.ql_replay.proofs.follow.follow.Given as goal
 
@@ -12,8 +11,9 @@ invariant-bytes g l = record {
   clean : has_feed l.follower.held.items ≡ false;
   short : length l.follower.held.items ≤ 200;
   low : l.follower.at < 2 ^ 64;
-  holds : (all : List ℕ) → IsAll l.fn.page (g.B.Source.left l.fn.book) all
-      → Holding (λ rest. ahead (g.H.Followed.host l.fn.follower.host) (g.H.Followed.line l.fn.follower.host) turn_in (g.H.Followed.world l.fn.follower.host) l.fn.follower.seen l.fn.follower.held.items rest l.fn.follower.at) l.fn.follower.at all
+  holds :
+      Holding (λ rest. ahead (g.H.Followed.host l.fn.follower.host) (g.H.Followed.line l.fn.follower.host) turn_in (g.H.Followed.world l.fn.follower.host) l.fn.follower.seen l.fn.follower.held.items rest l.fn.follower.at) l.fn.follower.at
+      l.fn.page (g.B.Source.left l.fn.book)
       (λ rest. ahead (g.H.Followed.host l.follower.host) (g.H.Followed.line l.follower.host) turn_in (g.H.Followed.world l.follower.host) l.follower.seen l.follower.held.items rest l.follower.at) l.follower.at l.page (g.B.Source.left l.book);
   faults : g.B.Source.faults l.book ≡ g.B.Source.faults l.fn.book;
 }

@@ -1,13 +1,12 @@
 use Rattle.std.proofs.Common.{◌≡◌, ◌∙◌, ap, ap₂}
 use Rattle.clap.specs.Simple.{App, with_subcommand}
+use Rattle.ql_top.specs.CommandLine.{with_looks}
 use Rattle.ql_top.proofs.command_line.ql.Goals as goal
 
 pub returns : goal.returns
 returns c =
     let shape : (s t : App) → s ≡ t → s.top ≡ t.top = λ s t. ap (λ (a : App). a.top) in
-    let first = c.in_ok-command.ensures.shape c.plain-check.ensures.local ∙ ap₂ with_subcommand c.base.ensures.app (shape _ _ c.plain-check.ensures.app) in
-    let second = c.in_ok-command-2.ensures.shape c.plain-show.ensures.local ∙ ap₂ with_subcommand first (shape _ _ c.plain-show.ensures.app) in
-    let third = c.in_ok-command-3.ensures.shape c.plain-list.ensures.local ∙ ap₂ with_subcommand second (shape _ _ c.plain-list.ensures.app) in
-    let fourth = c.in_ok-command-4.ensures.shape c.in_ok-run.ensures.local ∙ ap₂ with_subcommand third (shape _ _ c.in_ok-run.ensures.app) in
-    let fifth = c.in_ok-command-5.ensures.shape c.in_ok-generator.ensures.local ∙ ap₂ with_subcommand fourth (shape _ _ c.in_ok-generator.ensures.app) in
-    record { app = c.in_ok-command-6.ensures.shape c.in_ok-trial.ensures.local ∙ ap₂ with_subcommand fifth (shape _ _ c.in_ok-trial.ensures.app) }
+    let looks = c.in_ok-command.ensures.app ∙ ap with_looks c.base.ensures.app in
+    let first = c.in_ok-command-2.ensures.shape c.in_ok-run.ensures.local ∙ ap₂ with_subcommand looks (shape _ _ c.in_ok-run.ensures.app) in
+    let second = c.in_ok-command-3.ensures.shape c.in_ok-generator.ensures.local ∙ ap₂ with_subcommand first (shape _ _ c.in_ok-generator.ensures.app) in
+    record { app = c.in_ok-command-4.ensures.shape c.in_ok-trial.ensures.local ∙ ap₂ with_subcommand second (shape _ _ c.in_ok-trial.ensures.app) }
