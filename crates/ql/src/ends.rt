@@ -18,10 +18,7 @@ pub enum Input<'a> {
 pub fn source_of<'a>(words: &[&'a str]) -> Input<'a> {
     match words {
         [source, _, command, ..]
-            if is_among(command, &["check", "list", "replay", "run", "show"]) =>
-        {
-            named(source)
-        }
+            if is_among(command, &["check", "list", "replay", "run", "show"]) => { named(source) }
         _ => Input::Nothing,
     }
 }
