@@ -47,7 +47,6 @@ operands_more at w n cs mid ds c m h e =
     by_second [] k = absurd (omega arith)
     by_second (d ∷ es) k = refl
 
-pub nested_last : (at : ℕ) (bs : List Bound) (b : Bound) (c : spec.Core)
-    → nested at (bounds_of (bs ++ b ∷ [])) c ≡ under at (bounds_of bs) (core at (binding (one_bound (bound_of b).0 (bound_of b).1) c))
-nested_last at [] b c = refl
-nested_last at (d ∷ bs) b c = under_last at (d ∷ bs) b c
+pub nested_under : (at : ℕ) (bs : List Bound) (c : spec.Core) → (bs ≡ [] → ⊥) → under at (bounds_of bs) c ≡ nested at (bounds_of bs) c
+nested_under at [] c h = absurd (h refl)
+nested_under at (b ∷ bs) c h = refl

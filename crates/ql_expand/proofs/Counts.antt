@@ -1,27 +1,15 @@
 -- Slices of forms.
-use Rattle.std.proofs.Common.{◌≡◌, ℕ, suc, ◌+◌, ◌<◌, ◌≤◌, List, [], ◌∷◌, length, get_or, drop, refl, sym, ap, ◌∙◌, arith, Option, Some, None, add-one, drop-cons}
+use Rattle.std.proofs.Common.{◌≡◌, ℕ, suc, ◌+◌, ◌<◌, ◌≤◌, List, [], ◌∷◌, length, get_or, drop, refl, sym, ap, arith, Some, None, add-one, drop-cons}
 use Rattle.std.specs.Prelude.{Bool, true, false, ◌==◌, if◌then◌else◌}
 use Rattle.std.proofs.lemmas.List.{drop_all}
 use Rattle.std.proofs.lemmas.Bool.Decides.{nat_tests}
-use Rattle.ql_base.specs.declared.numbers.Offset.{Offset}
-use Rattle.ql_forms.specs.Form.{Form as Datum, Forms, count, none, more, list}
-use Rattle.ql_forms.specs.View.{form_of, forms_of, form_step, tail_of}
-use Rattle.ql_forms.specs.declared.form.Atom.{Atom}
-use Rattle.ql_forms.specs.declared.form.Form.{Form, fold-roll-Form}
-use Rattle.ql_forms.specs.declared.form.Form.TheOpen.{Form-F}
-use Rattle.ql_forms.specs.declared.form.Form.TheViews.{List as vList}
-use Rattle.ql_expand.specs.ExpandFault.{item_count}
+use Rattle.ql_forms.specs.Form.{Forms, count, none, more}
+use Rattle.ql_forms.specs.View.{form_of, forms_of}
+use Rattle.ql_forms.specs.declared.form.Form.{Form}
 
 pub as_many : (fs : List Form) → count (forms_of fs) ≡ length fs
 as_many [] = refl
 as_many (f ∷ fs) = omega (arith, as_many fs)
-
-list_seen : (at : Offset) (fs : List Form) (t : Option Atom) → form_of (vList at fs t) ≡ list at.0 (forms_of fs) (tail_of t)
-unfolding Rattle.ql_forms.specs.declared.form.Form.TheViews.roll-Form denote.Hole.Carrier.roll
-list_seen at fs t = fold-roll-Form Datum form_step (Form-F.List at fs t)
-
-pub item_count_is : (f : Form) (at : Offset) (fs : List Form) (t : Option Atom) → f ≡ vList at fs t → item_count (form_of f) ≡ length fs
-item_count_is f at fs t e = ap item_count (ap form_of e ∙ list_seen at fs t) ∙ as_many fs
 
 -- nil has no items
 pub nil_items : (n : Bool) (fs : Forms) → (if n then Some none else None) ≡ Some fs → none ≡ fs

@@ -7,7 +7,7 @@ use Rattle.ql_base.specs.declared.reserved.Reserved.TheVariants.{Nil, True, If, 
 use Rattle.ql_forms.specs.Form.{Form, Forms, none, more, atom, list, proper, symbol}
 use Rattle.ql_expand.specs.Operator.{operator_of}
 use Rattle.ql_expand.specs.Expands.{one, two, three, number_at}
-use Rattle.ql_expand.specs.ExpandFault.{expand_fault}
+use Rattle.ql_expand.specs.ExpandFault.{faults, expand_fault}
 
 abbrev word : ℕ → Reserved → Form
 word at w = atom at (symbol (number w))
@@ -38,7 +38,7 @@ shapes :
     × (fault_of (in_list 0 (more (word 1 Qlet) (three (word 6 True) (name 8) (number_at 10 1)))) ≡ Some (0, 9))
     × (fault_of (in_list 0 (two (word 1 Lambda) (name 8))) ≡ Some (8, 9))
     × (fault_of (in_list 0 (three (word 1 Let) (in_list 5 (one (word 6 Nil))) (number_at 10 1))) ≡ Some (6, 11))
-unfolding operator_of
+unfolding operator_of faults
 shapes = (refl, refl, refl, refl, refl, refl, refl)
 
 levels :
@@ -48,5 +48,5 @@ levels :
     -- (let* (a a ..)) with 199 bindings, and (cond (1) (1) ..) with 199 clauses
     × (fault_of (in_list 0 (two (word 1 LetStar) (in_list 6 (repeated 199 7 2 name)))) ≡ Some (7, 9))
     × (fault_of (in_list 0 (more (word 1 Cond) (repeated 199 6 4 (λ at. in_list at (one (number_at (at + 1) 1)))))) ≡ Some (6, 9))
-unfolding operator_of
+unfolding operator_of faults
 levels = (refl, refl, refl, refl)

@@ -1,18 +1,21 @@
 -- What is wrong with forms has kinds of its own.
-use Rattle.std.proofs.Common.{◌≡◌, ℕ, ◌+◌, ◌≤◌, ◌==◌, List, [], ◌∷◌, Option, Some, None, refl, arith}
-use Rattle.std.specs.Prelude.{Bool, true, false, ltb, if◌then◌else◌}
+use Rattle.std.proofs.Common.{◌≡◌, ℕ, zero, suc, ◌+◌, ◌≤◌, List, Option, Some, None, arith}
+use Rattle.std.specs.Prelude.{ltb, is_some}
 use Rattle.ql_base.specs.Kinds.{AreWithin, no_fault, and_fault, joined, either, told_within}
 use Rattle.ql_base.specs.Refusal.{fault}
 use Rattle.ql_base.specs.declared.refusal.Fault.{Fault}
 use Rattle.ql_base.specs.declared.refusal.FaultKind.TheVariants.{ReservedName}
-use Rattle.ql_forms.specs.Form.{Form, Forms, none, more, atom, list, Tail, proper, symbol, is_nil, place_of, count}
+use Rattle.ql_forms.specs.Form.{Form, Forms, none, more, is_atom, symbol_in, items_of, operation_in, place_of}
 use Rattle.ql_forms.specs.Numbered.{letters}
-use Rattle.ql_expand.specs.Core.{Binder, binder, named, hidden}
-use Rattle.ql_expand.specs.ExpandFault.{misshapen, under_sugar, fits, variable_faults, function_faults, is_marked, binder_faults, shape_of_parameters, parameters_faults, unless_deep, unless_top, where_fits, form_faults, forms_faults, assignment_faults, bind_faults, binds_faults, binding_faults, clause_faults, clauses_faults, source_faults, expand_fault}
-use Rattle.ql_expand.specs.Expands.{parameters_in}
+use Rattle.ql_expand.specs.ExpandFault.{misshapen, levels_added, variable_faults, function_faults, is_marked, top_faults, all_faults, parameter_faults, items_faults, parameters_faults, split_faults, list_faults, bound_faults, tested_faults, shape_faults, faults_to, faults, source_faults, expand_fault}
+use Rattle.ql_expand.specs.Expands.{binders_in}
 use Rattle.ql_expand.specs.Operator.{operator_of, reading_of, is_constant, is_call}
+use Rattle.ql_expand.specs.Parts as parts
+use Rattle.ql_expand.specs.Parts.{Split, parts_by, bind_in, clause_in}
 use Rattle.ql_expand.specs.declared.operator.Reading.{Reading}
-use Rattle.ql_expand.specs.declared.operator.Reading.TheVariants.{Nothing, Datum, Forms as PlainForms, SugarForms, Operands, Assignment, Global, Bindings, SugarBindings, FormAndBindings, Parameters, FormAndParameters, Definition, Clauses}
+use Rattle.ql_expand.specs.declared.operator.Reading.TheVariants.{Global, Definition}
+use Rattle.ql_expand.specs.declared.search.Role.{Role}
+use Rattle.ql_expand.specs.declared.search.Role.TheVariants.{Top, Inner, Bind, Clause}
 
 -- Each of these faults is of a kind of forms.
 abbrev OfForms : List Fault → Type 0
@@ -24,101 +27,62 @@ wrong at = and_fault (omega arith) (omega arith) no_fault
 reserved : (at : ℕ) → OfForms (fault ReservedName at)
 reserved at = and_fault (omega arith) (omega arith) no_fault
 
-deep : (n at : ℕ) {xs : List Fault} → OfForms xs → OfForms (unless_deep n at xs)
-deep n at h = either (ltb 400 n) (wrong at) h
-
-fitting : (t : Bool) (at : ℕ) {xs : List Fault} → OfForms xs → OfForms (where_fits t at xs)
-fitting t at h = either t h (wrong at)
-
-topmost : (top : Bool) (at : ℕ) {xs : List Fault} → OfForms xs → OfForms (unless_top top at xs)
-topmost top at h = either top h (and_fault (omega arith) (omega arith) h)
-
 variable_kinds : (at w : ℕ) → OfForms (variable_faults at w)
 variable_kinds at w = either (is_constant (operator_of w)) (reserved at) no_fault
 
 function_kinds : (at w : ℕ) → OfForms (function_faults at w)
 function_kinds at w = either (is_call (operator_of w)) no_fault (reserved at)
 
--- how the parts after an operator are read
-abbrev reading_in : Forms → Reading
-reading_in (more (atom o (symbol w)) fs) = reading_of (operator_of w)
-reading_in fs = Nothing
+top_kinds : (r : Role) (at : ℕ) (q : Reading) → OfForms (top_faults r at q)
+top_kinds Top at q = no_fault
+top_kinds _ at Global = and_fault (omega arith) (omega arith) no_fault
+top_kinds _ at Definition = and_fault (omega arith) (omega arith) no_fault
+top_kinds _ at _ = no_fault
+
+all_kinds : {faults : Form → List Fault} → ((f : Form) → OfForms (faults f)) → (fs : Forms) → OfForms (all_faults faults fs)
+all_kinds h none = no_fault
+all_kinds h (more f fs) = joined (h f) (all_kinds h fs)
 
 module _ (names : List (List ℕ)) where
-  binder_kinds : (bs : List Binder) → OfForms (binder_faults names bs)
-  binder_kinds [] = no_fault
-  binder_kinds (binder at (named w) ∷ bs) =
-      joined (either (is_marked (letters names w)) (wrong at) (variable_kinds at w)) (binder_kinds bs)
-  binder_kinds (binder at (hidden n) ∷ bs) = binder_kinds bs
+  parameter_kinds : (o : Option (ℕ × ℕ)) → OfForms (parameter_faults names o)
+  parameter_kinds None = no_fault
+  parameter_kinds (Some v) = either (is_marked (letters names v.1)) (wrong v.0) (variable_kinds v.0 v.1)
+
+  items_kinds : (at : ℕ) (o : Option Forms) → OfForms (items_faults names at o)
+  items_kinds at None = wrong at
+  items_kinds at (Some fs) = either (is_some (binders_in fs)) (all_kinds (λ f. parameter_kinds (symbol_in f)) fs) (wrong at)
 
   parameters_kinds : (f : Form) → OfForms (parameters_faults names f)
-  parameters_kinds f = by (parameters_in f)
-    where
-      by : (o : Option (List Binder)) → OfForms (shape_of_parameters names (place_of f) o)
-      by None = wrong (place_of f)
-      by (Some bs) = binder_kinds bs
+  parameters_kinds f = items_kinds (place_of f) (items_of f)
 
-  mutual
-    form_kinds : (top : Bool) (n : ℕ) (f : Form) → OfForms (form_faults names top n f)
-    form_kinds top n (atom at a) = deep n at no_fault
-    form_kinds top n (list at fs t) = list_kinds top n at (reading_in fs) fs t refl
+  split_kinds : {below : Role → Form → List Fault} → ((r : Role) (f : Form) → OfForms (below r f)) → (at : ℕ) (s : Split) → OfForms (split_faults names below at s)
+  split_kinds h at parts.misshapen = wrong at
+  split_kinds h at (parts.datum f) = no_fault
+  split_kinds h at _ = search (joined, all_kinds, variable_kinds, function_kinds, parameters_kinds, h)
 
-    -- a line for each shape that fits; the last one is that of all parts that fit none
-    list_kinds : (top : Bool) (n at : ℕ) (r : Reading) (fs : Forms) (t : Tail) → reading_in fs ≡ r → OfForms (form_faults names top n (list at fs t))
-    list_kinds top n at Datum (more (atom o (symbol w)) fs) proper e = rw e (deep n at (fitting (count fs == 1) at no_fault))
-    list_kinds top n at (PlainForms low high) (more (atom o (symbol w)) fs) proper e = rw e (deep n at (fitting (fits low high (count fs)) at (forms_kinds (n + 1) fs)))
-    list_kinds top n at (SugarForms low high) (more (atom o (symbol w)) fs) proper e = rw e (deep n at (fitting (fits low high (count fs)) at (forms_kinds (under_sugar n (count fs)) fs)))
-    list_kinds top n at (Operands low) (more (atom o (symbol w)) fs) proper e =
-        rw e (deep n at (fitting (fits low None (count fs)) at (forms_kinds (if count fs == 2 then n + 1 else under_sugar n (count fs)) fs)))
-    list_kinds top n at Assignment (more (atom o (symbol w)) fs) proper e = rw e (deep n at (assignment_kinds _ at fs))
-    list_kinds top n at Global (more (atom o (symbol w)) fs) proper e = rw e (deep n at (topmost top at (assignment_kinds _ at fs)))
-    list_kinds top n at Bindings (more (atom o (symbol w)) fs) proper e = rw e (deep n at (binding_kinds _ at fs))
-    list_kinds top n at SugarBindings (more (atom o (symbol w)) fs) proper e = rw e (deep n at (binding_kinds _ at fs))
-    list_kinds top n at FormAndBindings (more (atom o (symbol w)) (more f (more (list p bs proper) es))) proper e = rw e (deep n at (joined (form_kinds false _ f) (joined (binds_kinds _ bs) (forms_kinds _ es))))
-    list_kinds top n at FormAndBindings (more (atom o (symbol w)) (more f (more (atom p a) es))) proper e = rw e (deep n at (fitting (is_nil a) at (joined (form_kinds false _ f) (forms_kinds _ es))))
-    list_kinds top n at Parameters (more (atom o (symbol w)) (more ps es)) proper e = rw e (deep n at (joined (parameters_kinds ps) (forms_kinds _ es)))
-    list_kinds top n at FormAndParameters (more (atom o (symbol w)) (more f (more ps es))) proper e = rw e (deep n at (joined (form_kinds false _ f) (joined (parameters_kinds ps) (forms_kinds _ es))))
-    list_kinds top n at Definition (more (atom o (symbol w)) (more (atom p (symbol v)) (more ps es))) proper e =
-        rw e (deep n at (topmost top at (joined (function_kinds p v) (joined (parameters_kinds ps) (forms_kinds _ es)))))
-    list_kinds top n at Definition (more (atom o (symbol w)) fs) proper e = rw e (deep n at (topmost top at (wrong at)))
-    list_kinds top n at Clauses (more (atom o (symbol w)) fs) proper e = rw e (deep n at (clauses_kinds _ fs))
-    list_kinds top n at r (more (atom o (symbol w)) fs) proper e = rw e (deep n at (wrong at))
-    list_kinds top n at r fs t e = wrong at
+  module _ {below : ℕ → Role → Form → List Fault} (h : (d : ℕ) (r : Role) (f : Form) → OfForms (below d r f)) where
+    list_kinds : (r : Role) (at : ℕ) (o : Option ((ℕ × ℕ) × Forms)) → OfForms (list_faults names below r at o)
+    list_kinds r at None = wrong at
+    list_kinds r at (Some o) = let q = reading_of (operator_of o.0.1) in let s = parts_by q o.1 in joined (top_kinds r at q) (split_kinds (h (levels_added q s)) at s)
 
-    forms_kinds : (n : ℕ) (fs : Forms) → OfForms (forms_faults names n fs)
-    forms_kinds n none = no_fault
-    forms_kinds n (more f fs) = joined (form_kinds false n f) (forms_kinds n fs)
+    bound_kinds : (at : ℕ) (o : Option ((ℕ × ℕ) × Option Form)) → OfForms (bound_faults (below 0) at o)
+    bound_kinds at None = wrong at
+    bound_kinds at (Some (v, None)) = variable_kinds v.0 v.1
+    bound_kinds at (Some (v, Some e)) = joined (variable_kinds v.0 v.1) (h 0 Inner e)
 
-    assignment_kinds : (n at : ℕ) (fs : Forms) → OfForms (assignment_faults names n at fs)
-    assignment_kinds n at (more (atom o (symbol w)) (more e none)) = joined (variable_kinds o w) (form_kinds false n e)
-    assignment_kinds n at fs = wrong at
+    tested_kinds : (at : ℕ) (o : Option (Form × Forms)) → OfForms (tested_faults (below 0) at o)
+    tested_kinds at None = wrong at
+    tested_kinds at (Some c) = joined (h 0 Inner c.0) (all_kinds (h 0 Inner) c.1)
 
-    bind_kinds : (n : ℕ) (f : Form) → OfForms (bind_faults names n f)
-    bind_kinds n (atom at (symbol w)) = deep n at (variable_kinds at w)
-    bind_kinds n (list at (more (atom o (symbol w)) none) proper) = deep n at (variable_kinds o w)
-    bind_kinds n (list at (more (atom o (symbol w)) (more e none)) proper) = deep n at (joined (variable_kinds o w) (form_kinds false (n + 1) e))
-    bind_kinds n f = wrong (place_of f)
+    shape_kinds : (r : Role) (f : Form) → OfForms (shape_faults names below r f)
+    shape_kinds Bind f = bound_kinds (place_of f) (bind_in f)
+    shape_kinds Clause f = tested_kinds (place_of f) (clause_in f)
+    shape_kinds r f = either (is_atom f) no_fault (list_kinds r (place_of f) (operation_in f))
 
-    binds_kinds : (n : ℕ) (fs : Forms) → OfForms (binds_faults names n fs)
-    binds_kinds n none = no_fault
-    binds_kinds n (more f fs) = joined (bind_kinds n f) (binds_kinds n fs)
-
-    binding_kinds : (n at : ℕ) (fs : Forms) → OfForms (binding_faults names n at fs)
-    binding_kinds n at (more (list b bs proper) es) = joined (binds_kinds n bs) (forms_kinds n es)
-    binding_kinds n at (more (atom b a) es) = fitting (is_nil a) at (forms_kinds n es)
-    binding_kinds n at fs = wrong at
-
-    clause_kinds : (n : ℕ) (f : Form) → OfForms (clause_faults names n f)
-    clause_kinds n (list at (more c es) proper) = deep n at (joined (form_kinds false (n + 1) c) (forms_kinds (n + 1) es))
-    clause_kinds n f = wrong (place_of f)
-
-    clauses_kinds : (n : ℕ) (fs : Forms) → OfForms (clauses_faults names n fs)
-    clauses_kinds n none = no_fault
-    clauses_kinds n (more f fs) = joined (clause_kinds n f) (clauses_kinds n fs)
-
-  source_kinds : (fs : Forms) → OfForms (source_faults names fs)
-  source_kinds none = no_fault
-  source_kinds (more f fs) = joined (form_kinds true 1 f) (source_kinds fs)
+  form_kinds : (depth n : ℕ) (r : Role) (f : Form) → OfForms (faults_to names depth n r f)
+  form_kinds zero n r f = wrong (place_of f)
+  form_kinds (suc depth) n r f = either (ltb 400 n) (wrong (place_of f)) (shape_kinds (λ d. form_kinds depth (n + 1 + d)) r f)
 
 pub kinds_of_forms : (names : List (List ℕ)) (fs : Forms) (at kind : ℕ) → expand_fault names fs ≡ Some (at, kind) → (9 ≤ kind) × (kind ≤ 11)
-kinds_of_forms names fs at kind e = told_within (source_faults names fs) at kind (source_kinds names fs) e
+unfolding faults
+kinds_of_forms names fs at kind e = told_within (source_faults names fs) at kind (all_kinds (form_kinds names 401 1 Top) fs) e

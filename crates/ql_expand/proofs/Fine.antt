@@ -1,22 +1,21 @@
 -- A form without a fault has parts without one, of certain shapes, and smaller than it.
 use Rattle.std.proofs.Common.{◌≡◌, ℕ, ◌+◌, ◌<◌, ◌≤◌, zero, suc, List, [], ◌∷◌, ◌++◌, length, get_or, Option, Some, None, refl, sym, ap, subst, ◌∙◌, arith}
-use Rattle.std.specs.Prelude.{Bool, true, false, ltb, if◌then◌else◌}
-use Rattle.ql_forms.specs.Form.{Form as Datum, Forms, none, more, atom, list, proper, dotted, symbol, is_nil, items_of, operation_in, place_of, count}
+use Rattle.std.specs.Prelude.{Bool, true, false, if◌then◌else◌, is_some}
+use Rattle.std.specs.Option.{option_and_then}
+use Rattle.ql_forms.specs.Form.{Form as Datum, Forms, none, more, atom, list, proper, dotted, symbol, items_of, operation_in, place_of}
 use Rattle.ql_forms.specs.View.{form_of, forms_of}
 use Rattle.ql_forms.specs.declared.form.Form.{Form}
 use Rattle.ql_base.specs.declared.refusal.Fault.{Fault}
-use Rattle.ql_expand.proofs.Counts.{nil_items}
 use Rattle.ql_expand.specs.Assembly.{nil_core}
-use Rattle.ql_expand.specs.Building.{weight, weights, split_weight, IsFine, AreFine, IsFineBind, AreFineBinds, IsFineClause, AreFineClauses, HasParameters, IsFineSplit, Fits, fits_datum, fits_forms, fits_assignment, fits_let, fits_let_star, fits_qlet, fits_lambda, fits_qlambda, fits_clauses, allows}
+use Rattle.ql_expand.specs.Building.{IsList, weight, weights, IsFine, AreFine, IsFineBind, AreFineBinds, IsFineClause, AreFineClauses, HasParameters, IsFineSplit}
 use Rattle.ql_expand.specs.Core.{Binder, binder, named, Core}
-use Rattle.ql_expand.specs.ExpandFault.{misshapen as bad_shape, unless_deep, form_faults, forms_faults, clauses_faults, parameters_faults, shape_of_parameters}
-use Rattle.ql_expand.specs.Expands.{applied, parameters_in, Expands, Bind, with_value, without_value, alone}
+use Rattle.ql_expand.specs.ExpandFault.{misshapen as bad_shape, levels_added, top_faults, all_faults, symbols_faults, items_faults, parameters_faults, split_faults, list_faults, faults}
+use Rattle.ql_expand.specs.Expands.{applied, binders_in, Expands, Bind, with_value, without_value, alone}
 use Rattle.ql_expand.specs.Operator.{operator_of, reading_of}
-use Rattle.ql_expand.specs.Parts.{Split, misshapen, datum, forms, assignment, bindings, form_and_bindings, parameters, form_and_parameters, definition, clauses, parts_by, with_binds, after, bind_in, clause_in}
-use Rattle.ql_expand.specs.Searching.{split_faults, top_faults, level_below}
-use Rattle.ql_expand.specs.declared.operator.Operator.{Operator}
-use Rattle.ql_expand.specs.declared.operator.Operator.TheVariants.{Constant, Quote, Defun, Defvar, Lambda, Qlambda, Setq, Let, Qlet, Cond, LetStar}
-use Rattle.ql_expand.proofs.Splits.{form_is}
+use Rattle.ql_expand.specs.Parts.{Split, misshapen, datum, forms, assignment, bindings, form_and_bindings, parameters, form_and_parameters, definition, clauses, parts_by, bind_in, clause_in}
+use Rattle.ql_expand.specs.declared.search.Role.{Role}
+use Rattle.ql_expand.specs.declared.search.Role.TheVariants.{Inner, Bind as BindRole, Clause}
+use Rattle.ql_expand.proofs.Levels.{clean}
 
 -- ---- no faults
 
@@ -24,21 +23,18 @@ pub neither : {xs ys : List Fault} → xs ++ ys ≡ [] → (xs ≡ []) × (ys �
 neither {xs = []} e = (refl, e)
 neither {xs = x ∷ xs} e = cc
 
-pub undeep : (n at : ℕ) (xs : List Fault) → unless_deep n at xs ≡ [] → xs ≡ []
-undeep n at xs = by_depth (ltb 400 n)
-  where
-    by_depth : (b : Bool) → (if b then bad_shape at else xs) ≡ [] → xs ≡ []
-    by_depth true e = cc
-    by_depth false e = e
-
 has_parameters : (names : List (List ℕ)) (ps : Datum) → parameters_faults names ps ≡ [] → HasParameters ps
-has_parameters names ps = by_binders (parameters_in ps) refl
+has_parameters names ps = by_items (items_of ps)
   where
-    by_binders : (o : Option (List Binder)) → parameters_in ps ≡ o → shape_of_parameters names (place_of ps) o ≡ [] → HasParameters ps
-    by_binders None h e = cc
-    by_binders (Some bs) h e = (bs, h)
+    by_binders : (fs : Forms) (o : Option (List Binder)) → binders_in fs ≡ o → (if is_some o then symbols_faults names fs else bad_shape (place_of ps)) ≡ [] → (bs : List Binder) × (o ≡ Some bs)
+    by_binders fs None k h = cc
+    by_binders fs (Some bs) k h = (bs, refl)
 
-fine_split : (names : List (List ℕ)) (n at : ℕ) (s : Split) → split_faults names n at s ≡ [] → IsFineSplit s
+    by_items : (o : Option Forms) → items_faults names (place_of ps) o ≡ [] → (bs : List Binder) × (option_and_then binders_in o ≡ Some bs)
+    by_items None h = cc
+    by_items (Some fs) h = by_binders fs (binders_in fs) refl h
+
+fine_split : (names : List (List ℕ)) (n at : ℕ) (s : Split) → split_faults names (faults names n) at s ≡ [] → IsFineSplit s
 fine_split names n at misshapen e = cc
 fine_split names n at (datum f) e = tt
 fine_split names n at (forms fs) e = (names, n, e)
@@ -53,55 +49,11 @@ fine_split names n at (definition o v ps es) e =
     let both = neither e in let rest = neither both.1 in (has_parameters names ps rest.0, (names, n, rest.1))
 fine_split names n at (clauses cs) e = (names, n, e)
 
--- ---- the parts fit
-
-counted_fit : (r : Operator) (fs : Forms) (b : Bool) → allows (reading_of r) (count fs) ≡ b
-    → IsFineSplit (if b then forms fs else misshapen) → Fits r fs (if b then forms fs else misshapen)
-counted_fit r fs true e h = fits_forms e
-counted_fit r fs false e h = absurd h
-
-items_fit : {r : Operator} {fs : Forms} (o : Option Forms) (split : Option Forms → Split) → split None ≡ misshapen → ((bs : Forms) → o ≡ Some bs → Fits r fs (split (Some bs)))
-    → IsFineSplit (split o) → Fits r fs (split o)
-items_fit None split n k h = absurd (subst IsFineSplit n h)
-items_fit (Some bs) split n k h = k bs refl
-
-split_fits : (at : ℕ) (r : Operator) (fs : Forms) → top_faults false at (reading_of r) ≡ [] → IsFineSplit (parts_by (reading_of r) fs) → Fits r fs (parts_by (reading_of r) fs)
-split_fits at Constant fs e h = absurd h
-split_fits at Defun fs e h = cc
-split_fits at Defvar fs e h = cc
-split_fits at Quote (more f none) e h = fits_datum
-split_fits at Quote fs e h = absurd h
-split_fits at Lambda (more ps es) e h = fits_lambda
-split_fits at Lambda none e h = absurd h
-split_fits at Qlambda (more f (more ps es)) e h = fits_qlambda
-split_fits at Qlambda fs e h = absurd h
-split_fits at Setq (more (atom o (symbol v)) (more f none)) e h = fits_assignment
-split_fits at Setq fs e h = absurd h
-split_fits at Let (more b es) e h = items_fit (items_of b) (λ o. with_binds o es) refl (λ bs. fits_let) h
-split_fits at Let none e h = absurd h
-split_fits at LetStar (more b es) e h = items_fit (items_of b) (λ o. with_binds o es) refl (λ bs. fits_let_star) h
-split_fits at LetStar none e h = absurd h
-split_fits at Qlet (more f (more b es)) e h = items_fit (items_of b) (λ o. after f (with_binds o es)) refl (λ bs. fits_qlet) h
-split_fits at Qlet fs e h = absurd h
-split_fits at Cond fs e h = fits_clauses
-split_fits at r fs e h = counted_fit r fs (allows (reading_of r) (count fs)) refl h
-
 -- The parts of a list without a fault have none.
-pub fine_operation : (names : List (List ℕ)) (top : Bool) (n at o w : ℕ) (fs : Forms) → form_faults names top n (applied at o w fs) ≡ []
-    → (top_faults top at (reading_of (operator_of w)) ≡ []) × IsFineSplit (parts_by (reading_of (operator_of w)) fs)
-fine_operation names top n at o w fs h =
-    let q = reading_of (operator_of w) in
-    let none_in = undeep n at (top_faults top at q ++ split_faults names (level_below q n fs) at (parts_by q fs)) (sym (form_is names top n (applied at o w fs)) ∙ h) in
-    let both = neither none_in in (both.0, fine_split names (level_below q n fs) at (parts_by q fs) both.1)
-
--- What the parts of a form are that has no fault, split as its operator reads them.
-pub parts_fit : (at o w : ℕ) (fs : Forms) (r : Operator) (s : Split) → IsFine (applied at o w fs) → r ≡ operator_of w → s ≡ parts_by (reading_of r) fs
-    → IsFineSplit s × Fits r fs s
-parts_fit at o w fs r s (names, n, h) e k =
-    let fine = fine_operation names false n at o w fs h in rw (k, e) (fine.1, split_fits at (operator_of w) fs fine.0 fine.1)
-
-pub forms_fit : {p r : Operator} {fs gs : Forms} → Fits r fs (forms gs) → p ≡ r → AreFine gs → (allows (reading_of p) (count fs) ≡ true) × AreFine fs
-forms_fit (fits_forms h) q y = (rw q h, y)
+pub fine_list : (names : List (List ℕ)) (n : ℕ) (r : Role) (at : ℕ) (o : (ℕ × ℕ) × Forms) → list_faults names (λ d. faults names (n + 1 + d)) r at (Some o) ≡ []
+    → (top_faults r at (reading_of (operator_of o.0.1)) ≡ []) × IsFineSplit (parts_by (reading_of (operator_of o.0.1)) o.1)
+fine_list names n r at o h =
+    let q = reading_of (operator_of o.0.1) in let s = parts_by q o.1 in let both = neither h in (both.0, fine_split names (n + 1 + levels_added q s) at s both.1)
 
 -- ---- operations, bindings and clauses
 
@@ -109,6 +61,17 @@ pub operation_shape : (f : Datum) (o w : ℕ) (fs : Forms) → operation_in f �
 operation_shape (list at (more (atom p (symbol v)) gs) proper) o w fs k =
     let pair : ((p, v), gs) ≡ ((o, w), fs) = cc in ap (λ (q : (ℕ × ℕ) × Forms). applied at q.0.0 q.0.1 q.1) pair
 operation_shape f o w fs k = cc
+
+-- A form without a fault has a shape.
+pub operation_found : (f : Datum) → IsFine f → IsList f → operation_in f ≡ None → ⊥
+operation_found (list at fs t) (names, n, h) l e = let bad : bad_shape at ≡ [] = rw e at (clean names n Inner (list at fs t) h) in cc
+operation_found (atom at a) fine l e = absurd l
+
+pub bind_found : (f : Datum) → IsFineBind f → bind_in f ≡ None → ⊥
+bind_found f (names, n, h) e = let bad : bad_shape (place_of f) ≡ [] = rw e at (clean names n BindRole f h) in cc
+
+pub clause_found : (f : Datum) → IsFineClause f → clause_in f ≡ None → ⊥
+clause_found f (names, n, h) e = let bad : bad_shape (place_of f) ≡ [] = rw e at (clean names n Clause f h) in cc
 
 -- what follows where a form binds this
 abbrev pub BoundBy : Datum → Option ((ℕ × ℕ) × Option Datum) → Type 0
@@ -119,7 +82,7 @@ BoundBy f (Some (v, Some e)) = (weight e + 1 ≤ weight f) × ((k : Core) → Ex
 bound_by : (f : Datum) → BoundBy f (bind_in f)
 bound_by (atom at (symbol v)) = alone
 bound_by (list at (more (atom o (symbol v)) none) proper) = without_value
-bound_by (list at (more (atom o (symbol v)) (more e none)) proper) = (omega arith, λ k x. with_value x, λ fine. (fine.0, fine.1 + 1, (neither (undeep fine.1 at _ fine.2)).1))
+bound_by (list at (more (atom o (symbol v)) (more e none)) proper) = (omega arith, λ k x. with_value x, λ fine. (fine.0, fine.1 + 1 + 0, (neither (clean fine.0 fine.1 BindRole _ fine.2)).1))
 bound_by (list at (more (atom o (symbol v)) (more e (more f fs))) proper) = tt
 bound_by (list at (more (atom o (symbol v)) (more e (more f fs))) (dotted a)) = tt
 bound_by f = tt
@@ -138,8 +101,8 @@ clause_shape f c es h = cc
 pub clause_parts : (f : Datum) {c : Datum} {es : Forms} → clause_in f ≡ Some (c, es) → IsFineClause f → (weight c + weights es + 2 ≤ weight f) × (IsFine c × AreFine es)
 clause_parts f {c = c} {es = es} k (names, n, h) =
     let shape = clause_shape f c es k in
-    let both = neither (undeep n shape.0 (form_faults names false (n + 1) c ++ forms_faults names (n + 1) es) (rw shape.1 at h)) in
-    let size = ap weight shape.1 in (omega (arith, size), ((names, n + 1, both.0), (names, n + 1, both.1)))
+    let both = neither (rw k at (clean names n Clause f h)) in
+    let size = ap weight shape.1 in (omega (arith, size), ((names, n + 1 + 0, both.0), (names, n + 1 + 0, both.1)))
 
 -- ---- one of some forms
 
@@ -148,7 +111,7 @@ fine_first f fs (names, n, h) = let both = neither h in ((names, n, both.0), (na
 
 pub clauses_parts : {f : Datum} {fs gs : Forms} → gs ≡ more f fs → AreFineClauses gs → (weights gs ≡ weight f + 1 + weights fs) × (IsFineClause f × AreFineClauses fs)
 clauses_parts {f = f} {fs = fs} e (names, n, h) =
-    let both = neither (ap (clauses_faults names n) (sym e) ∙ h) in (ap weights e, ((names, n, both.0), (names, n, both.1)))
+    let both = neither (ap (all_faults (faults names n Clause)) (sym e) ∙ h) in (ap weights e, ((names, n, both.0), (names, n, both.1)))
 
 -- Where a fact of some forms is one of the first and one of the others, it is one of each.
 pub at_place : (P : Forms → Type 0) (Q : Datum → Type 0) → ((f : Datum) (fs : Forms) → P (more f fs) → Q f × P fs)
@@ -166,28 +129,11 @@ fine_bind_at = at_place AreFineBinds IsFineBind (λ f fs fine. let both = neithe
 fine_before : (xs : List Form) (x : Form) → AreFine (forms_of (xs ++ x ∷ [])) → AreFine (forms_of xs) × IsFine (form_of x)
 fine_before xs x (names, n, h) = let both = of xs h in ((names, n, both.0), (names, n, both.1))
   where
-    of : (xs : List Form) → forms_faults names n (forms_of (xs ++ x ∷ [])) ≡ [] → (forms_faults names n (forms_of xs) ≡ []) × (form_faults names false n (form_of x) ≡ [])
+    of : (xs : List Form) → all_faults (faults names n Inner) (forms_of (xs ++ x ∷ [])) ≡ [] → (all_faults (faults names n Inner) (forms_of xs) ≡ []) × (faults names n Inner (form_of x) ≡ [])
     of [] h = (refl, (neither h).0)
-    of (y ∷ xs) h = let both = neither {xs = form_faults names false n (form_of y)} h in let rest = of xs both.1 in (rw (both.0, rest.0) refl, rest.1)
+    of (y ∷ xs) h = let both = neither {xs = faults names n Inner (form_of y)} h in let rest = of xs both.1 in (rw (both.0, rest.0) refl, rest.1)
 
 -- ---- how large the parts are
-
-weight_items : (f : Datum) (fs : Forms) → items_of f ≡ Some fs → weights fs + 1 ≤ weight f
-weight_items (list at gs proper) fs e = let s : gs ≡ fs = cc in rw s (omega arith)
-weight_items (list at gs (dotted a)) fs e = cc
-weight_items (atom at a) fs e = rw (← nil_items (is_nil a) fs e) (omega arith)
-
--- The parts are no larger than all that stands after the operator.
-pub fits_weight : {r : Operator} {fs : Forms} {s : Split} → Fits r fs s → split_weight s ≤ weights fs
-fits_weight fits_datum = omega arith
-fits_weight (fits_forms h) = omega arith
-fits_weight fits_assignment = omega arith
-fits_weight (fits_let {b = b} {bs = bs} h) = omega (arith, weight_items b bs h)
-fits_weight (fits_let_star {b = b} {bs = bs} h) = omega (arith, weight_items b bs h)
-fits_weight (fits_qlet {b = b} {bs = bs} h) = omega (arith, weight_items b bs h)
-fits_weight fits_lambda = omega arith
-fits_weight fits_qlambda = omega arith
-fits_weight fits_clauses = omega arith
 
 -- the weight of the one at a place
 pub weight_at : (xs : List Form) (i : ℕ) (x : Form) → i < length xs → x ≡ get_or xs i x → weight (form_of x) + 1 ≤ weights (forms_of xs)

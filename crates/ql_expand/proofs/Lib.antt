@@ -4,8 +4,8 @@ pub mod Examples
 pub mod FaultKinds
 pub mod Fine
 pub mod Gathering
+pub mod Levels
 pub mod Making
 pub mod Programs
-pub mod Splits
 mod TopForms
 pub mod Unique

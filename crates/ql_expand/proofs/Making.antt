@@ -1,23 +1,26 @@
 -- What forms expand to whose parts are expanded.
-use Rattle.std.proofs.Common.{◌≡◌, ℕ, ◌≤◌, List, Option, Some, None, refl, sym, ap, ◌∙◌, subst, arith}
+use Rattle.std.proofs.Common.{◌≡◌, ℕ, ◌+◌, ◌≤◌, [], Option, Some, None, refl, sym, ap, ◌∙◌, subst, arith}
 use Rattle.std.specs.Prelude.{Bool, true, false, nat_le, ◌==◌, ◌&&◌, if◌then◌else◌}
 use Rattle.std.proofs.lemmas.Bool.{leb-true, and_parts}
 use Rattle.ql_base.specs.Reserved.{number}
 use Rattle.ql_base.specs.declared.reserved.Reserved.{Reserved}
 use Rattle.ql_base.specs.declared.reserved.Reserved.TheVariants.{Null, Greater, Less, Cons, Nil, True, If as IfWord, And as AndWord, Or as OrWord, Progn as PrognWord, Cond as CondWord, Let as LetWord, LetStar as LetStarWord, List as ListWord}
 use Rattle.ql_forms.specs.Form.{Form, Forms, none, more, atom, list, proper, dotted, symbol, integer, Atom, items_of, place_of, count, is_nil}
-use Rattle.ql_expand.specs.Assembly.{atom_core, nil_core, number_core, with_two, either, chain, all_linked, folded, operands, nested, let_core, before_body, of_each, has_body}
-use Rattle.ql_expand.specs.Building.{Fits, fits_datum, fits_assignment, fits_let, fits_let_star, fits_qlet, fits_lambda, fits_qlambda, fits_clauses, allows, passes, Clauses, EachOf, none_of, one_of}
-use Rattle.ql_expand.specs.Core.{named, Binder, Core, core, Cores, no_cores, and_core, Bounds, and_bound, constant, setq, conditional, variable, print, funcall, throw, protect, lambda, qlet, qlambda}
-use Rattle.ql_expand.specs.ExpandFault.{fits}
-use Rattle.ql_expand.specs.Expands.{applied, nil_at, one, two, parameters_in, no_terms, no_factors, one_term, one_factor, negative, more_operands, not_null, at_most, at_least, list_none, list_more, and_none, and_one, and_more, or_none, or_one, when, unless, cond_none, cond_test, cond_forms, let_star_none, let_star_one, let_star_more, Expands, sugar, or_more, integer_alone, constant_word, quoted, variable_word, assigned, if_then, if_else, sequence, bound, one_operand, two_operands, printed, called, value_called, closed, bound_apart, closed_apart, caught, caught_all, thrown, protected, Body, no_forms, one_form, forms, Each, none_left, one_more, Bind, Binds, none_bound, one_bound}
+use Rattle.ql_expand.specs.Assembly.{atom_core, nil_core, number_core, with_two, either, chain, all_linked, folded, operands, nested, before_body, of_each, has_body}
+use Rattle.ql_expand.specs.Building.{weight, weights, IsFine, IsFineSplit, Gives, allows, passes, Clauses, EachOf, none_of, one_of}
+use Rattle.ql_expand.specs.Core.{named, Binder, Core, core, Cores, no_cores, and_core, Bounds, and_bound, constant, conditional, variable, print, funcall, throw, protect}
+use Rattle.ql_expand.specs.Expands.{applied, nil_at, one, two, no_terms, no_factors, one_term, one_factor, negative, more_operands, not_null, at_most, at_least, list_none, list_more, and_none, and_one, and_more, or_none, or_one, when, unless, cond_none, cond_test, cond_forms, let_star_none, let_star_one, let_star_more, Expands, sugar, or_more, integer_alone, constant_word, quoted, variable_word, assigned, if_then, if_else, sequence, bound, one_operand, two_operands, printed, called, value_called, closed, bound_apart, closed_apart, caught, caught_all, thrown, protected, Body, no_forms, one_form, forms, Each, none_left, one_more, Bind, Binds, none_bound, one_bound}
 use Rattle.ql_expand.specs.Operator.{operator_of, reserved_operator, reading_of, takes_two, is_arithmetic, is_constant}
 use Rattle.ql_expand.specs.Parts as parts
-use Rattle.ql_expand.specs.Parts.{clause_in}
+use Rattle.ql_expand.specs.Parts.{fits, clause_in}
 use Rattle.ql_expand.proofs.Counts.{nil_items, not_one}
-use Rattle.ql_expand.proofs.Fine.{clause_shape}
+use Rattle.ql_expand.specs.ExpandFault.{top_faults}
+use Rattle.ql_expand.specs.declared.search.Role.TheVariants.{Inner}
+use Rattle.ql_expand.proofs.Fine.{clause_shape, fine_list}
+use Rattle.ql_expand.proofs.Levels.{clean}
 use Rattle.ql_expand.specs.declared.operator.Operator.{Operator}
-use Rattle.ql_expand.specs.declared.operator.Operator.TheVariants.{If, Progn, Catch, Qcatch, Throw, Protect, Funcall, Print, Unary, Binary, Sum, Difference, Product, Not, AtMost, AtLeast, And, Or, When, Unless, LetStar, List as ListOf, Call}
+use Rattle.ql_expand.specs.declared.operator.Reading.{Reading}
+use Rattle.ql_expand.specs.declared.operator.Operator.TheVariants.{Constant, Quote, Defun, Defvar, Lambda, Qlambda, Setq, Let, Qlet, Cond, If, Progn, Catch, Qcatch, Throw, Protect, Funcall, Print, Unary, Binary, Sum, Difference, Product, Not, AtMost, AtLeast, And, Or, When, Unless, LetStar, List as ListOf, Call}
 
 -- ---- the words that sugar adds
 
@@ -230,40 +233,52 @@ let_star_made (list p fs proper) {bs = bs} e h (one_bound x xs) y = let same : f
 let_star_made (list p fs (dotted t)) e h (one_bound x xs) y = cc
 let_star_made (atom p a) {bs = bs} e h (one_bound x xs) y = let none_is = nil_items (is_nil a) bs h in cc
 
--- ---- parts that fit
+-- ---- parts
 
-module _ {d : Bool} {at o w : ℕ} where
-  pub let_made : {p r : Operator} {fs bs es : Forms} {ns : Bounds} {c : Core} → Fits r fs (parts.bindings bs es) → operator_of w ≡ r → p ≡ r → Binds bs ns → Body at es c
-      → Expands d (applied at o w fs) (let_core p at ns c)
-  let_made (fits_let h) e q x y = rw q (bound e h x y)
-  let_made (fits_let_star {b = b} h) e q x y = rw q (let_star_made b e h x y)
+counted : (at o w : ℕ) (r : Operator) (fs : Forms) (b : Bool) → operator_of w ≡ r → allows (reading_of r) (count fs) ≡ b
+    → IsFineSplit (if b then parts.forms fs else parts.misshapen) → Gives at o w fs (if b then parts.forms fs else parts.misshapen)
+counted at o w r fs true e k h = (rw e k, h)
+counted at o w r fs false e k h = absurd h
 
-  pub qlet_made : {r : Operator} {fs : Forms} {f : Form} {bs es : Forms} {a c : Core} {ns : Bounds} → Fits r fs (parts.form_and_bindings f bs es) → operator_of w ≡ r → Expands false f a → Binds bs ns
-      → Body at es c → Expands d (applied at o w fs) (core at (qlet a ns c))
-  qlet_made (fits_qlet h) e x y z = bound_apart e x h y z
+with_items : (P : parts.Split → Type 0) (b : Form) (split : Option Forms → parts.Split) → split None ≡ parts.misshapen
+    → ((bs : Forms) → items_of b ≡ Some bs → weights bs + 1 ≤ weight b → P (split (Some bs))) → IsFineSplit (split (items_of b)) → P (split (items_of b))
+with_items P (list p bs proper) split n k h = k bs refl (omega arith)
+with_items P (list p bs (dotted t)) split n k h = absurd (subst IsFineSplit n h)
+with_items P (atom p a) split n k h = by_nil (is_nil a) k h
+  where
+    by_nil : (b : Bool) → ((bs : Forms) → (if b then Some none else None) ≡ Some bs → weights bs + 1 ≤ 1 → P (split (Some bs)))
+        → IsFineSplit (split (if b then Some none else None)) → P (split (if b then Some none else None))
+    by_nil true k h = k none refl (omega arith)
+    by_nil false k h = absurd (subst IsFineSplit n h)
 
-  pub lambda_made : {r : Operator} {fs : Forms} {ps : Form} {es : Forms} {vs : List Binder} {c : Core} → Fits r fs (parts.parameters ps es) → operator_of w ≡ r → parameters_in ps ≡ Some vs → Body at es c
-      → Expands d (applied at o w fs) (core at (lambda vs c))
-  lambda_made fits_lambda e x y = closed e x y
+parts_give : (at o w : ℕ) (r : Operator) (fs : Forms) → operator_of w ≡ r → top_faults Inner at (reading_of r) ≡ [] → IsFineSplit (parts.parts_by (reading_of r) fs)
+    → Gives at o w fs (parts.parts_by (reading_of r) fs)
+parts_give at o w Constant fs e n h = absurd h
+parts_give at o w Defun fs e n h = cc
+parts_give at o w Defvar fs e n h = cc
+parts_give at o w Quote (more f none) e n h = λ d k q. rw q (quoted e)
+parts_give at o w Quote fs e n h = absurd h
+parts_give at o w Lambda (more ps es) e n h = (omega arith, λ d vs c k x y q. rw q (closed e x y))
+parts_give at o w Lambda none e n h = absurd h
+parts_give at o w Qlambda (more f (more ps es)) e n h = (omega arith, λ d i vs c k x y z q. rw q (closed_apart e x y z))
+parts_give at o w Qlambda fs e n h = absurd h
+parts_give at o w Setq (more (atom p (symbol v)) (more f none)) e n h = (omega arith, λ d c k x q. rw q (assigned e x))
+parts_give at o w Setq fs e n h = absurd h
+parts_give at o w Let (more b es) e n h = with_items (Gives at o w _) b (λ i. parts.with_binds i es) refl (λ bs i m. (omega arith, λ d r ns c k s x y q. rw (q, s ∙ e) (bound e i x y))) h
+parts_give at o w Let none e n h = absurd h
+parts_give at o w LetStar (more b es) e n h =
+    with_items (Gives at o w _) b (λ i. parts.with_binds i es) refl (λ bs i m. (omega arith, λ d r ns c k s x y q. rw (q, s ∙ e) (let_star_made b e i x y))) h
+parts_give at o w LetStar none e n h = absurd h
+parts_give at o w Qlet (more f (more b es)) e n h =
+    with_items (Gives at o w _) b (λ i. parts.after f (parts.with_binds i es)) refl (λ bs i m. (omega arith, λ d a ns c k x y z q. rw q (bound_apart e x i y z))) h
+parts_give at o w Qlet fs e n h = absurd h
+parts_give at o w Cond fs e n h = (omega arith, λ d k x. x d o w e)
+parts_give at o w r fs e n h = counted at o w r fs (allows (reading_of r) (count fs)) e refl h
 
-  pub qlambda_made : {r : Operator} {fs : Forms} {f ps : Form} {es : Forms} {vs : List Binder} {a c : Core} → Fits r fs (parts.form_and_parameters f ps es) → operator_of w ≡ r → Expands false f a
-      → parameters_in ps ≡ Some vs → Body at es c → Expands d (applied at o w fs) (core at (qlambda a vs c))
-  qlambda_made fits_qlambda e x y z = closed_apart e x y z
-
-  pub setq_made : {r : Operator} {fs : Forms} {p v : ℕ} {f : Form} {c : Core} → Fits r fs (parts.assignment p v f) → operator_of w ≡ r → Expands false f c
-      → Expands d (applied at o w fs) (core at (setq (named v) p c))
-  setq_made fits_assignment e x = assigned e x
-
-  pub quote_made : {r : Operator} {fs : Forms} {f : Form} → Fits r fs (parts.datum f) → operator_of w ≡ r → Expands d (applied at o w fs) (core at (constant f))
-  quote_made fits_datum e = quoted e
-
-  pub cond_made : {r : Operator} {fs cs : Forms} {k : Core} → Fits r fs (parts.clauses cs) → operator_of w ≡ r → Clauses at cs k → Expands d (applied at o w fs) k
-  cond_made fits_clauses e x = x d o w e
-
-pub no_definition : {r : Operator} {fs es : Forms} {s : parts.Split} {o v : ℕ} {ps : Form} → Fits r fs s → s ≡ parts.definition o v ps es → ⊥
-no_definition fits_datum e = cc
-no_definition _ e = cc
-
-pub ruleset of_parts = (quote_made, let_made, qlet_made, lambda_made, qlambda_made, setq_made, cond_made, no_definition)
+-- What the parts of a list give that has no fault, split as its operator reads them.
+pub parts_fit : (at o w : ℕ) (fs : Forms) (r : Operator) (q : Reading) (s : parts.Split) → IsFine (applied at o w fs) → r ≡ operator_of w → q ≡ reading_of r → s ≡ parts.parts_by q fs
+    → IsFineSplit s × Gives at o w fs s
+parts_fit at o w fs r q s (names, n, h) e k l =
+    let fine = fine_list names n Inner at ((o, w), fs) (clean names n Inner (applied at o w fs) h) in rw (l, k, e) (fine.1, parts_give at o w (operator_of w) fs refl fine.0 fine.1)
 
 pub ruleset of_ways = (sequence_made, printed_made, applied_made, before_made, each_made)

@@ -1,15 +1,17 @@
 -- Forms without a fault, their parts, and what they are built of. It serves the proofs.
-use Rattle.std.specs.Prelude.{◌≡◌, ◌+◌, ◌==◌, ◌&&◌, ℕ, Bool, true, false, List, [], Some, None}
-use Rattle.ql_forms.specs.Form.{Form, Forms, none, more, atom, list, symbol, items_of, count}
-use Rattle.ql_expand.specs.Core.{Core, Cores, no_cores, and_core, Binder}
-use Rattle.ql_expand.specs.ExpandFault.{fits, form_faults, forms_faults, bind_faults, binds_faults, clause_faults, clauses_faults}
-use Rattle.ql_expand.specs.Expands.{applied, one, two, binders_in, parameters_in, Expands}
+use Rattle.std.specs.Prelude.{◌≡◌, ◌≤◌, ◌+◌, ◌==◌, ◌&&◌, ℕ, Bool, true, false, List, [], Some, None}
+use Rattle.ql_forms.specs.Form.{Form, Forms, none, more, atom, list, count}
+use Rattle.ql_expand.specs.Assembly.{let_core}
+use Rattle.ql_expand.specs.Core.{named, Binder, Core, core, Cores, no_cores, and_core, Bounds, constant, setq, lambda, qlet, qlambda}
+use Rattle.ql_expand.specs.ExpandFault.{all_faults, faults}
+use Rattle.ql_expand.specs.Expands.{applied, binders_in, parameters_in, Expands, Body, Binds}
 use Rattle.ql_expand.specs.Operator.{operator_of, reading_of}
-use Rattle.ql_expand.specs.Parts.{Split, misshapen, datum, forms, assignment, bindings, form_and_bindings, parameters, form_and_parameters, definition, clauses}
+use Rattle.ql_expand.specs.Parts.{fits, Split, misshapen, datum, forms, assignment, bindings, form_and_bindings, parameters, form_and_parameters, definition, clauses}
 use Rattle.ql_expand.specs.declared.operator.Operator.{Operator}
-use Rattle.ql_expand.specs.declared.operator.Operator.TheVariants.{Quote, Lambda, Qlambda, Setq, Let, Qlet, Cond, And, Or, LetStar}
+use Rattle.ql_expand.specs.declared.operator.Operator.TheVariants.{Cond, And, Or}
 use Rattle.ql_expand.specs.declared.operator.Reading.{Reading}
 use Rattle.ql_expand.specs.declared.operator.Reading.TheVariants as readings
+use Rattle.ql_expand.specs.declared.search.Role.TheVariants.{Inner, Bind, Clause}
 
 abbrev pub IsList : Form → Type 0
 IsList (atom at a) = ⊥
@@ -17,22 +19,22 @@ IsList (list at fs t) = Unit {0}
 
 -- It has no fault at some level.
 abbrev pub IsFine : Form → Type 0
-IsFine f = (names : List (List ℕ)) × (n : ℕ) × (form_faults names false n f ≡ [])
+IsFine f = (names : List (List ℕ)) × (n : ℕ) × (faults names n Inner f ≡ [])
 
 abbrev pub AreFine : Forms → Type 0
-AreFine fs = (names : List (List ℕ)) × (n : ℕ) × (forms_faults names n fs ≡ [])
+AreFine fs = (names : List (List ℕ)) × (n : ℕ) × (all_faults (faults names n Inner) fs ≡ [])
 
 abbrev pub IsFineBind : Form → Type 0
-IsFineBind f = (names : List (List ℕ)) × (n : ℕ) × (bind_faults names n f ≡ [])
+IsFineBind f = (names : List (List ℕ)) × (n : ℕ) × (faults names n Bind f ≡ [])
 
 abbrev pub AreFineBinds : Forms → Type 0
-AreFineBinds fs = (names : List (List ℕ)) × (n : ℕ) × (binds_faults names n fs ≡ [])
+AreFineBinds fs = (names : List (List ℕ)) × (n : ℕ) × (all_faults (faults names n Bind) fs ≡ [])
 
 abbrev pub IsFineClause : Form → Type 0
-IsFineClause f = (names : List (List ℕ)) × (n : ℕ) × (clause_faults names n f ≡ [])
+IsFineClause f = (names : List (List ℕ)) × (n : ℕ) × (faults names n Clause f ≡ [])
 
 abbrev pub AreFineClauses : Forms → Type 0
-AreFineClauses fs = (names : List (List ℕ)) × (n : ℕ) × (clauses_faults names n fs ≡ [])
+AreFineClauses fs = (names : List (List ℕ)) × (n : ℕ) × (all_faults (faults names n Clause) fs ≡ [])
 
 abbrev pub HasParameters : Form → Type 0
 HasParameters f = (bs : List Binder) × (parameters_in f ≡ Some bs)
@@ -59,18 +61,6 @@ allows (readings.SugarForms low high) m = fits low high m
 allows (readings.Operands low) m = fits low None m
 allows _ m = false
 
--- These are the parts of a form with this operator that is no definition.
-pub data Fits : Operator → Forms → Split → Type 0 where
-  fits_datum : {f : Form} → Fits Quote (one f) (datum f)
-  fits_forms : {r : Operator} {fs : Forms} → allows (reading_of r) (count fs) ≡ true → Fits r fs (forms fs)
-  fits_assignment : {o v : ℕ} {e : Form} → Fits Setq (two (atom o (symbol v)) e) (assignment o v e)
-  fits_let : {b : Form} {bs es : Forms} → items_of b ≡ Some bs → Fits Let (more b es) (bindings bs es)
-  fits_let_star : {b : Form} {bs es : Forms} → items_of b ≡ Some bs → Fits LetStar (more b es) (bindings bs es)
-  fits_qlet : {f b : Form} {bs es : Forms} → items_of b ≡ Some bs → Fits Qlet (more f (more b es)) (form_and_bindings f bs es)
-  fits_lambda : {ps : Form} {es : Forms} → Fits Lambda (more ps es) (parameters ps es)
-  fits_qlambda : {f ps : Form} {es : Forms} → Fits Qlambda (more f (more ps es)) (form_and_parameters f ps es)
-  fits_clauses : {cs : Forms} → Fits Cond cs (clauses cs)
-
 -- Each `cond` at this offset with these clauses expands to this core.
 abbrev pub Clauses : ℕ → Forms → Core → Type 0
 Clauses at fs c = (d : Bool) (o w : ℕ) → operator_of w ≡ Cond → Expands d (applied at o w fs) c
@@ -96,12 +86,19 @@ abbrev mutual
   weights none = 0
   weights (more f fs) = weight f + 1 + weights fs
 
-abbrev pub split_weight : Split → ℕ
-split_weight (forms fs) = weights fs
-split_weight (assignment o v e) = weight e + 1
-split_weight (bindings bs es) = weights bs + weights es
-split_weight (form_and_bindings f bs es) = weight f + 1 + (weights bs + weights es)
-split_weight (parameters ps es) = weights es
-split_weight (form_and_parameters f ps es) = weight f + 1 + weights es
-split_weight (clauses cs) = weights cs
-split_weight _ = 0
+-- How large the parts of the list at this offset are, and what it expands to where they do.
+abbrev pub Gives : (at operator_at word : ℕ) → Forms → Split → Type 0
+Gives at o w fs (datum f) = (d : Bool) (k : Core) → k ≡ core at (constant f) → Expands d (applied at o w fs) k
+Gives at o w fs (forms gs) = (allows (reading_of (operator_of w)) (count fs) ≡ true) × AreFine fs
+Gives at o w fs (assignment p v e) = (weight e + 1 ≤ weights fs)
+    × ((d : Bool) (c k : Core) → Expands false e c → k ≡ core at (setq (named v) p c) → Expands d (applied at o w fs) k)
+Gives at o w fs (bindings bs es) = (weights bs + weights es ≤ weights fs)
+    × ((d : Bool) (r : Operator) (ns : Bounds) (c k : Core) → r ≡ operator_of w → Binds bs ns → Body at es c → k ≡ let_core r at ns c → Expands d (applied at o w fs) k)
+Gives at o w fs (form_and_bindings f bs es) = (weight f + 1 + (weights bs + weights es) ≤ weights fs)
+    × ((d : Bool) (e : Core) (ns : Bounds) (c k : Core) → Expands false f e → Binds bs ns → Body at es c → k ≡ core at (qlet e ns c) → Expands d (applied at o w fs) k)
+Gives at o w fs (parameters ps es) = (weights es ≤ weights fs)
+    × ((d : Bool) (vs : List Binder) (c k : Core) → parameters_in ps ≡ Some vs → Body at es c → k ≡ core at (lambda vs c) → Expands d (applied at o w fs) k)
+Gives at o w fs (form_and_parameters f ps es) = (weight f + 1 + weights es ≤ weights fs)
+    × ((d : Bool) (e : Core) (vs : List Binder) (c k : Core) → Expands false f e → parameters_in ps ≡ Some vs → Body at es c → k ≡ core at (qlambda e vs c) → Expands d (applied at o w fs) k)
+Gives at o w fs (clauses cs) = (weights cs ≤ weights fs) × ((d : Bool) (k : Core) → Clauses at cs k → Expands d (applied at o w fs) k)
+Gives at o w fs _ = ⊥

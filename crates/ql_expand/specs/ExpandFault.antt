@@ -1,14 +1,18 @@
 -- What is wrong with forms.
-use Rattle.std.specs.Prelude.{ℕ, ◌+◌, ◌*◌, ◌&&◌, ◌==◌, nat_le, ltb, Bool, true, false, if◌then◌else◌, List, [], ◌∷◌, ◌++◌, Option, Some, None}
+use Rattle.std.specs.Prelude.{ℕ, zero, suc, ◌+◌, ◌*◌, ◌==◌, ltb, Bool, true, false, not, if◌then◌else◌, List, [], ◌∷◌, ◌++◌, Option, Some, None, is_some}
 use Rattle.ql_base.specs.Refusal.{fault, least, told}
 use Rattle.ql_base.specs.declared.refusal.Fault.{Fault}
 use Rattle.ql_base.specs.declared.refusal.FaultKind.TheVariants.{BadShape, BadTop, ReservedName}
-use Rattle.ql_forms.specs.Form.{Form, Forms, none, more, atom, list, proper, symbol, is_nil, place_of, count}
+use Rattle.ql_forms.specs.Form.{Form, Forms, none, more, is_atom, symbol_in, items_of, operation_in, place_of, count}
 use Rattle.ql_forms.specs.Numbered.{letters}
-use Rattle.ql_expand.specs.Core.{Binder, binder, named}
-use Rattle.ql_expand.specs.Expands.{parameters_in}
+use Rattle.ql_expand.specs.Expands.{binders_in}
 use Rattle.ql_expand.specs.Operator.{operator_of, reading_of, is_constant, is_call}
-use Rattle.ql_expand.specs.declared.operator.Reading.TheVariants.{Nothing, Datum, Forms as PlainForms, SugarForms, Operands, Assignment, Global, Bindings, SugarBindings, FormAndBindings, Parameters, FormAndParameters, Definition, Clauses}
+use Rattle.ql_expand.specs.Parts as parts
+use Rattle.ql_expand.specs.Parts.{Split, parts_by, bind_in, clause_in}
+use Rattle.ql_expand.specs.declared.operator.Reading.{Reading}
+use Rattle.ql_expand.specs.declared.operator.Reading.TheVariants.{SugarForms, Operands, Global, SugarBindings, Definition, Clauses}
+use Rattle.ql_expand.specs.declared.search.Role.{Role}
+use Rattle.ql_expand.specs.declared.search.Role.TheVariants.{Top, Inner, Bind, Clause}
 
 -- the deepest level
 abbrev pub deepest : ℕ
@@ -18,24 +22,24 @@ deepest = 400
 abbrev pub misshapen : ℕ → List Fault
 misshapen at = fault BadShape at
 
--- the level of the parts of a sugar form at this level with so many parts
-abbrev pub under_sugar : ℕ → ℕ → ℕ
-under_sugar n m = n + 2 * m + 2
+-- how many parts a list has, where sugar counts them
+abbrev pub part_count : Split → ℕ
+part_count (parts.forms fs) = count fs
+part_count (parts.bindings bs es) = count bs + count es
+part_count (parts.clauses cs) = count cs
+part_count _ = 0
 
--- how many items a list has
-abbrev pub item_count : Form → ℕ
-item_count (atom at a) = 0
-item_count (list at fs t) = count fs
+-- what is read like this is sugar where it has so many parts
+abbrev pub is_sugar : Reading → ℕ → Bool
+is_sugar (SugarForms low high) m = true
+is_sugar (Operands low) m = not (m == 2)
+is_sugar SugarBindings m = true
+is_sugar Clauses m = true
+is_sugar _ m = false
 
--- how many bindings and body forms there are
-abbrev pub parts_of_bindings : Forms → ℕ
-parts_of_bindings (more b es) = item_count b + count es
-parts_of_bindings none = 0
-
--- between the least and the most, where there is a most
-abbrev pub fits : ℕ → Option ℕ → ℕ → Bool
-fits low None m = nat_le low m
-fits low (Some high) m = nat_le low m && nat_le m high
+-- how many levels a list that is read like this adds above its parts
+abbrev pub levels_added : Reading → Split → ℕ
+levels_added q s = if is_sugar q (part_count s) then 2 * part_count s + 1 else 0
 
 -- the name of a variable
 abbrev pub variable_faults : (at number : ℕ) → List Fault
@@ -50,116 +54,84 @@ abbrev pub is_marked : List ℕ → Bool
 is_marked [] = false
 is_marked (b ∷ w) = b == 38
 
--- the name of a parameter, which is a variable
-abbrev pub parameter_faults : List (List ℕ) → (at number : ℕ) → List Fault
-parameter_faults names at w = if is_marked (letters names w) then misshapen at else variable_faults at w
-
-abbrev pub binder_faults : List (List ℕ) → List Binder → List Fault
-binder_faults names [] = []
-binder_faults names (binder at (named w) ∷ bs) = parameter_faults names at w ++ binder_faults names bs
-binder_faults names (_ ∷ bs) = binder_faults names bs
-
-abbrev pub shape_of_parameters : List (List ℕ) → ℕ → Option (List Binder) → List Fault
-shape_of_parameters names at None = misshapen at
-shape_of_parameters names at (Some bs) = binder_faults names bs
-
--- a parameter list
-abbrev pub parameters_faults : List (List ℕ) → Form → List Fault
-parameters_faults names f = shape_of_parameters names (place_of f) (parameters_in f)
-
--- What is wrong with a form at this level is what is wrong in it, unless it is too deep.
-abbrev pub unless_deep : ℕ → ℕ → List Fault → List Fault
-unless_deep n at faults = if ltb deepest n then misshapen at else faults
-
--- What is wrong where this fits is this, else the list at this offset has a wrong shape.
-abbrev pub where_fits : Bool → ℕ → List Fault → List Fault
-where_fits b at faults = if b then faults else misshapen at
-
 -- A definition stands among the top forms alone.
-abbrev pub unless_top : Bool → ℕ → List Fault → List Fault
-unless_top top at faults = if top then faults else fault BadTop at ++ faults
+abbrev pub top_faults : Role → ℕ → Reading → List Fault
+top_faults Top at r = []
+top_faults _ at Global = fault BadTop at
+top_faults _ at Definition = fault BadTop at
+top_faults _ at _ = []
 
-abbrev mutual
-  -- all that is wrong with a form at this level; the parts of a form are looked at where its own shape fits
-  pub form_faults : List (List ℕ) → (top : Bool) → ℕ → Form → List Fault
-  form_faults names top n (atom at a) = unless_deep n at []
-  form_faults names top n (list at (more (atom o (symbol w)) parts) proper) = unless_deep n at (elim (reading_of (operator_of w)) [
-    | Nothing ↦ misshapen at
-    | Datum ↦ where_fits (count parts == 1) at []
-    | PlainForms low high ↦ where_fits (fits low high (count parts)) at (forms_faults names (n + 1) parts)
-    | SugarForms low high ↦ where_fits (fits low high (count parts)) at (forms_faults names (under_sugar n (count parts)) parts)
-    | Operands low ↦ where_fits (fits low None (count parts)) at
-        (forms_faults names (if count parts == 2 then n + 1 else under_sugar n (count parts)) parts)
-    | Assignment ↦ assignment_faults names (n + 1) at parts
-    | Global ↦ unless_top top at (assignment_faults names (n + 1) at parts)
-    | Bindings ↦ binding_faults names (n + 1) at parts
-    | SugarBindings ↦ binding_faults names (under_sugar n (parts_of_bindings parts)) at parts
-    | FormAndBindings ↦ form_and_binding_faults names (n + 1) at parts
-    | Parameters ↦ lambda_faults names (n + 1) at parts
-    | FormAndParameters ↦ form_and_lambda_faults names (n + 1) at parts
-    | Definition ↦ unless_top top at (definition_faults names (n + 1) at parts)
-    | Clauses ↦ clauses_faults names (under_sugar n (count parts)) parts
-  ])
-  form_faults names top n (list at fs t) = misshapen at
+-- all that is wrong with some forms, where this is what is wrong with one
+abbrev pub all_faults : (Form → List Fault) → Forms → List Fault
+all_faults faults none = []
+all_faults faults (more f fs) = faults f ++ all_faults faults fs
 
-  pub forms_faults : List (List ℕ) → ℕ → Forms → List Fault
-  forms_faults names n none = []
-  forms_faults names n (more f fs) = form_faults names false n f ++ forms_faults names n fs
+-- a binding, whose value is one level further
+abbrev pub bound_faults : (Role → Form → List Fault) → ℕ → Option ((ℕ × ℕ) × Option Form) → List Fault
+bound_faults below at None = misshapen at
+bound_faults below at (Some (v, None)) = variable_faults v.0 v.1
+bound_faults below at (Some (v, Some e)) = variable_faults v.0 v.1 ++ below Inner e
 
-  -- a variable and its value
-  pub assignment_faults : List (List ℕ) → ℕ → ℕ → Forms → List Fault
-  assignment_faults names n at (more (atom o (symbol w)) (more e none)) = variable_faults o w ++ form_faults names false n e
-  assignment_faults names n at parts = misshapen at
+-- a clause, whose forms are one level further
+abbrev pub tested_faults : (Role → Form → List Fault) → ℕ → Option (Form × Forms) → List Fault
+tested_faults below at None = misshapen at
+tested_faults below at (Some c) = below Inner c.0 ++ all_faults (below Inner) c.1
 
-  -- a binding, whose value is one level further
-  pub bind_faults : List (List ℕ) → ℕ → Form → List Fault
-  bind_faults names n (atom at (symbol w)) = unless_deep n at (variable_faults at w)
-  bind_faults names n (list at (more (atom o (symbol w)) none) proper) = unless_deep n at (variable_faults o w)
-  bind_faults names n (list at (more (atom o (symbol w)) (more e none)) proper) = unless_deep n at (variable_faults o w ++ form_faults names false (n + 1) e)
-  bind_faults names n f = misshapen (place_of f)
+module _ (names : List (List ℕ)) where
+  -- the symbol of a parameter, which is a variable
+  abbrev pub parameter_faults : Option (ℕ × ℕ) → List Fault
+  parameter_faults None = []
+  parameter_faults (Some v) = if is_marked (letters names v.1) then misshapen v.0 else variable_faults v.0 v.1
 
-  pub binds_faults : List (List ℕ) → ℕ → Forms → List Fault
-  binds_faults names n none = []
-  binds_faults names n (more f fs) = bind_faults names n f ++ binds_faults names n fs
+  abbrev pub symbols_faults : Forms → List Fault
+  symbols_faults fs = all_faults (λ f. parameter_faults (symbol_in f)) fs
 
-  -- bindings and a body
-  pub binding_faults : List (List ℕ) → ℕ → ℕ → Forms → List Fault
-  binding_faults names n at (more (list b bs proper) es) = binds_faults names n bs ++ forms_faults names n es
-  binding_faults names n at (more (atom b a) es) = where_fits (is_nil a) at (forms_faults names n es)
-  binding_faults names n at parts = misshapen at
+  -- the items of a parameter list at this offset
+  abbrev pub items_faults : ℕ → Option Forms → List Fault
+  items_faults at None = misshapen at
+  items_faults at (Some fs) = if is_some (binders_in fs) then symbols_faults fs else misshapen at
 
-  pub form_and_binding_faults : List (List ℕ) → ℕ → ℕ → Forms → List Fault
-  form_and_binding_faults names n at (more e (more (list b bs proper) es)) = form_faults names false n e ++ (binds_faults names n bs ++ forms_faults names n es)
-  form_and_binding_faults names n at (more e (more (atom b a) es)) = where_fits (is_nil a) at (form_faults names false n e ++ forms_faults names n es)
-  form_and_binding_faults names n at parts = misshapen at
+  -- a parameter list
+  abbrev pub parameters_faults : Form → List Fault
+  parameters_faults f = items_faults (place_of f) (items_of f)
 
-  -- parameters and a body
-  pub lambda_faults : List (List ℕ) → ℕ → ℕ → Forms → List Fault
-  lambda_faults names n at (more ps es) = parameters_faults names ps ++ forms_faults names n es
-  lambda_faults names n at none = misshapen at
+  -- the parts of a list at this offset, where this is what is wrong with a form at their level
+  abbrev pub split_faults : (Role → Form → List Fault) → ℕ → Split → List Fault
+  split_faults below at parts.misshapen = misshapen at
+  split_faults below at (parts.datum f) = []
+  split_faults below at (parts.forms fs) = all_faults (below Inner) fs
+  split_faults below at (parts.assignment o v e) = variable_faults o v ++ below Inner e
+  split_faults below at (parts.bindings bs es) = all_faults (below Bind) bs ++ all_faults (below Inner) es
+  split_faults below at (parts.form_and_bindings f bs es) = below Inner f ++ (all_faults (below Bind) bs ++ all_faults (below Inner) es)
+  split_faults below at (parts.parameters ps es) = parameters_faults ps ++ all_faults (below Inner) es
+  split_faults below at (parts.form_and_parameters f ps es) = below Inner f ++ (parameters_faults ps ++ all_faults (below Inner) es)
+  split_faults below at (parts.definition o v ps es) = function_faults o v ++ (parameters_faults ps ++ all_faults (below Inner) es)
+  split_faults below at (parts.clauses cs) = all_faults (below Clause) cs
 
-  pub form_and_lambda_faults : List (List ℕ) → ℕ → ℕ → Forms → List Fault
-  form_and_lambda_faults names n at (more e (more ps es)) = form_faults names false n e ++ (parameters_faults names ps ++ forms_faults names n es)
-  form_and_lambda_faults names n at parts = misshapen at
+  -- A list, where this is what is wrong with a form so many levels further than the next. Its parts are looked at where
+  -- they fit its shape.
+  abbrev pub list_faults : (ℕ → Role → Form → List Fault) → Role → ℕ → Option ((ℕ × ℕ) × Forms) → List Fault
+  list_faults below r at None = misshapen at
+  list_faults below r at (Some o) = let q = reading_of (operator_of o.0.1) in let s = parts_by q o.1 in top_faults r at q ++ split_faults (below (levels_added q s)) at s
 
-  -- the name, the parameters and the body of a function
-  pub definition_faults : List (List ℕ) → ℕ → ℕ → Forms → List Fault
-  definition_faults names n at (more (atom o (symbol w)) (more ps es)) = function_faults o w ++ (parameters_faults names ps ++ forms_faults names n es)
-  definition_faults names n at parts = misshapen at
+  -- a form in this role
+  abbrev pub shape_faults : (ℕ → Role → Form → List Fault) → Role → Form → List Fault
+  shape_faults below Bind f = bound_faults (below 0) (place_of f) (bind_in f)
+  shape_faults below Clause f = tested_faults (below 0) (place_of f) (clause_in f)
+  shape_faults below r f = if is_atom f then [] else list_faults below r (place_of f) (operation_in f)
 
-  -- a clause, whose forms are one level further
-  pub clause_faults : List (List ℕ) → ℕ → Form → List Fault
-  clause_faults names n (list at (more c es) proper) = unless_deep n at (form_faults names false (n + 1) c ++ forms_faults names (n + 1) es)
-  clause_faults names n f = misshapen (place_of f)
+  -- a form in this role at this level, at most so many levels deep
+  abbrev pub faults_to : (depth level : ℕ) → Role → Form → List Fault
+  faults_to zero n r f = misshapen (place_of f)
+  faults_to (suc depth) n r f = if ltb deepest n then misshapen (place_of f) else shape_faults (λ d. faults_to depth (n + 1 + d)) r f
 
-  pub clauses_faults : List (List ℕ) → ℕ → Forms → List Fault
-  clauses_faults names n none = []
-  clauses_faults names n (more f fs) = clause_faults names n f ++ clauses_faults names n fs
+-- All that is wrong with a form in this role at this level. No level is looked at that is deeper than the one after the deepest.
+unfoldable pub faults : List (List ℕ) → (level : ℕ) → Role → Form → List Fault
+faults names n r f = faults_to names (deepest + 1) n r f
 
 -- all that is wrong with the forms of a source
 abbrev pub source_faults : List (List ℕ) → Forms → List Fault
-source_faults names none = []
-source_faults names (more f fs) = form_faults names true 1 f ++ source_faults names fs
+source_faults names fs = all_faults (faults names 1 Top) fs
 
 -- the first fault of a source: its offset and the number of its kind
 abbrev pub expand_fault : List (List ℕ) → Forms → Option (ℕ × ℕ)

@@ -1,8 +1,9 @@
 -- What forms expand to: a case for each row of the tables of core forms and of sugar.
-use Rattle.std.specs.Prelude.{◌≡◌, ℕ, pos, Bool, true, false, List, [], ◌∷◌, Option, Some, None, option_map, if◌then◌else◌}
+use Rattle.std.specs.Prelude.{◌≡◌, ℕ, pos, Bool, true, false, List, [], ◌∷◌, Option, Some, None, option_map}
+use Rattle.std.specs.Option.{option_and_then}
 use Rattle.ql_base.specs.Reserved.{number}
 use Rattle.ql_base.specs.declared.reserved.Reserved.TheVariants.{Null, Greater, Less, Cons, True, If as IfWord, And as AndWord, Or as OrWord, Progn as PrognWord, Cond as CondWord, Let as LetWord, LetStar as LetStarWord, List as ListWord}
-use Rattle.ql_forms.specs.Form.{Form, Forms, none, more, atom, list, proper, integer, symbol, nil, is_nil, items_of}
+use Rattle.ql_forms.specs.Form.{Form, Forms, none, more, atom, list, proper, integer, symbol, nil, items_of}
 use Rattle.ql_expand.specs.Core.{named, hidden, Binder, binder, Core, core, Cores, no_cores, and_core, Bounds, no_bounds, and_bound, constant, variable, setq, conditional, progn, binding, primitive, print, call, funcall, lambda, qlet, qlambda, catch, qcatch, throw, protect, defvar, Function, function, Program, program}
 use Rattle.ql_expand.specs.Operator.{operator_of, takes_two, is_arithmetic, is_constant}
 use Rattle.ql_expand.specs.declared.operator.Operator.TheVariants.{Quote, Defun, Defvar, Lambda, Qlambda, Setq, If, Progn, Let, Qlet, Catch, Qcatch, Throw, Protect, Funcall, Print, Unary, Sum, Difference, Product, Not, AtMost, AtLeast, Cond, And, Or, When, Unless, LetStar, List as ListOf, Call}
@@ -41,9 +42,7 @@ binders_in _ = None
 
 -- the parameters in a parameter list
 abbrev pub parameters_in : Form → Option (List Binder)
-parameters_in (list at fs proper) = binders_in fs
-parameters_in (atom at a) = if is_nil a then Some [] else None
-parameters_in _ = None
+parameters_in f = option_and_then binders_in (items_of f)
 
 -- one step of expansion: what a sugar form becomes. The row of `or` with more forms than one is a core one below,
 -- since no form names its hidden variable.

@@ -1,5 +1,4 @@
 pub mod Assembly
-pub mod Below
 pub mod Building
 pub mod Core
 pub mod Expands

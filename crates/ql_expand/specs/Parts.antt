@@ -1,8 +1,7 @@
--- The parts of a list as they fit its shape. It serves the proofs.
-use Rattle.std.specs.Prelude.{ℕ, Option, Some, None, option_map, if◌then◌else◌}
+-- The parts of a list as they fit its shape.
+use Rattle.std.specs.Prelude.{ℕ, nat_le, Bool, ◌&&◌, Option, Some, None, option_map, if◌then◌else◌}
 use Rattle.ql_forms.specs.Form.{Form, Forms, none, more, atom, list, proper, symbol_in, items_of, operation_in, count}
 use Rattle.ql_forms.specs.View.{form_of, forms_of}
-use Rattle.ql_expand.specs.ExpandFault.{fits}
 use Rattle.ql_expand.specs.declared.operator.Reading.{Reading}
 use Rattle.ql_expand.specs.declared.operator.Reading.TheVariants as readings
 use Rattle.ql_expand.specs.declared.parts.Parts.{Parts}
@@ -20,6 +19,11 @@ pub data Split : Type 0 where
   form_and_parameters : (form parameters : Form) → (body : Forms) → Split
   definition : (at name : ℕ) → (parameters : Form) → (body : Forms) → Split
   clauses : Forms → Split
+
+-- between the least and the most, where there is a most
+abbrev pub fits : ℕ → Option ℕ → ℕ → Bool
+fits low None m = nat_le low m
+fits low (Some high) m = nat_le low m && nat_le m high
 
 abbrev pub forms_by : ℕ → Option ℕ → Forms → Split
 forms_by low high fs = if fits low high (count fs) then forms fs else misshapen

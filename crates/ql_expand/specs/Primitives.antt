@@ -1,6 +1,8 @@
--- Programs whose primitives are ones, with as many operands as they take.
-use Rattle.std.specs.Prelude.{ℕ, ◌+◌, ◌==◌, Bool, true, false, ◌&&◌, if◌then◌else◌, List, [], ◌∷◌}
-use Rattle.ql_expand.specs.Core.{Core, core, Node, constant, variable, setq, conditional, progn, binding, primitive, print, call, funcall, lambda, qlet, qlambda, catch, qcatch, throw, protect, defvar, Cores, no_cores, and_core, Bounds, no_bounds, and_bound, Function, function, Program, program}
+-- Programs whose primitives are ones, with as many operands as they take, and whose numbers are all those of names.
+use Rattle.std.specs.Prelude.{ℕ, ◌+◌, ◌==◌, Bool, true, false, ◌&&◌, nat_lt, if◌then◌else◌, List}
+use Rattle.std.specs.List.{list_all}
+use Rattle.ql_forms.specs.Form.{Form, form_below}
+use Rattle.ql_expand.specs.Core.{Name, named, hidden, Binder, binder, Core, core, Node, constant, variable, setq, conditional, progn, binding, primitive, print, call, funcall, lambda, qlet, qlambda, catch, qcatch, throw, protect, defvar, Cores, no_cores, and_core, Bounds, no_bounds, and_bound, Function, function, Program, program}
 use Rattle.ql_expand.specs.Operator.{operator_of, takes_two}
 use Rattle.ql_expand.specs.declared.operator.Operator.{Operator}
 use Rattle.ql_expand.specs.declared.operator.Operator.TheVariants.{Unary}
@@ -17,42 +19,59 @@ count_of (and_core c cs) = count_of cs + 1
 abbrev pub takes : ℕ → ℕ → Bool
 takes n k = if k == 1 then takes_one (operator_of n) else (k == 2 && takes_two (operator_of n))
 
-abbrev mutual
-  -- whether each primitive in a core is one, and has as many operands as it takes
-  pub has_primitives : Core → Bool
-  has_primitives (core at n) = node_has_primitives n
+-- the variable of a source has a number that passes the test
+abbrev pub name_passes : (ℕ → Bool) → Name → Bool
+name_passes number (named n) = number n
+name_passes number (hidden n) = true
 
-  pub node_has_primitives : Node → Bool
-  node_has_primitives (constant f) = true
-  node_has_primitives (variable v) = true
-  node_has_primitives (setq v named_at c) = has_primitives c
-  node_has_primitives (conditional a b c) = has_primitives a && (has_primitives b && has_primitives c)
-  node_has_primitives (progn cs) = have_primitives cs
-  node_has_primitives (binding bs c) = bounds_have_primitives bs && has_primitives c
-  node_has_primitives (primitive o cs) = takes o (count_of cs) && have_primitives cs
-  node_has_primitives (print c) = has_primitives c
-  node_has_primitives (call f named_at cs) = have_primitives cs
-  node_has_primitives (funcall ignored c cs) = has_primitives c && have_primitives cs
-  node_has_primitives (lambda bs c) = has_primitives c
-  node_has_primitives (qlet p bs c) = has_primitives p && (bounds_have_primitives bs && has_primitives c)
-  node_has_primitives (qlambda p bs c) = has_primitives p && has_primitives c
-  node_has_primitives (catch a b) = has_primitives a && has_primitives b
-  node_has_primitives (qcatch a b) = has_primitives a && has_primitives b
-  node_has_primitives (throw a b) = has_primitives a && has_primitives b
-  node_has_primitives (protect a b) = has_primitives a && has_primitives b
-  node_has_primitives (defvar v named_at c) = has_primitives c
+abbrev pub binder_passes : (ℕ → Bool) → Binder → Bool
+binder_passes number (binder at v) = name_passes number v
 
-  pub have_primitives : Cores → Bool
-  have_primitives no_cores = true
-  have_primitives (and_core c cs) = has_primitives c && have_primitives cs
+-- with a test of the numbers, and one of the constants
+module _ (number : ℕ → Bool) (datum : Form → Bool) where
+  abbrev mutual
+    -- whether each number and each constant in a core passes, and each primitive is one, with as many operands as it takes
+    pub core_passes : Core → Bool
+    core_passes (core at n) = node_passes n
 
-  pub bounds_have_primitives : Bounds → Bool
-  bounds_have_primitives no_bounds = true
-  bounds_have_primitives (and_bound b c bs) = has_primitives c && bounds_have_primitives bs
+    pub node_passes : Node → Bool
+    node_passes (constant f) = datum f
+    node_passes (variable v) = name_passes number v
+    node_passes (setq v named_at c) = name_passes number v && core_passes c
+    node_passes (conditional a b c) = core_passes a && (core_passes b && core_passes c)
+    node_passes (progn cs) = cores_pass cs
+    node_passes (binding bs c) = bounds_pass bs && core_passes c
+    node_passes (primitive o cs) = number o && (takes o (count_of cs) && cores_pass cs)
+    node_passes (print c) = core_passes c
+    node_passes (call f named_at cs) = number f && cores_pass cs
+    node_passes (funcall ignored c cs) = core_passes c && cores_pass cs
+    node_passes (lambda bs c) = list_all (binder_passes number) bs && core_passes c
+    node_passes (qlet p bs c) = core_passes p && (bounds_pass bs && core_passes c)
+    node_passes (qlambda p bs c) = core_passes p && (list_all (binder_passes number) bs && core_passes c)
+    node_passes (catch a b) = core_passes a && core_passes b
+    node_passes (qcatch a b) = core_passes a && core_passes b
+    node_passes (throw a b) = core_passes a && core_passes b
+    node_passes (protect a b) = core_passes a && core_passes b
+    node_passes (defvar v named_at c) = number v && core_passes c
 
-abbrev pub functions_have_primitives : List Function → Bool
-functions_have_primitives [] = true
-functions_have_primitives (function at n named_at bs c ∷ fs) = has_primitives c && functions_have_primitives fs
+    pub cores_pass : Cores → Bool
+    cores_pass no_cores = true
+    cores_pass (and_core c cs) = core_passes c && cores_pass cs
 
+    pub bounds_pass : Bounds → Bool
+    bounds_pass no_bounds = true
+    bounds_pass (and_bound b c bs) = binder_passes number b && (core_passes c && bounds_pass bs)
+
+  abbrev pub function_passes : Function → Bool
+  function_passes (function at n named_at bs c) = number n && (list_all (binder_passes number) bs && core_passes c)
+
+  abbrev pub program_passes : Program → Bool
+  program_passes (program fs globals cs) = list_all function_passes fs && (list_all number globals && cores_pass cs)
+
+-- Its primitives are right, and each number is below this count of names.
+abbrev pub program_below : ℕ → Program → Bool
+program_below count = program_passes (λ n. nat_lt n count) (form_below count)
+
+-- Its primitives are right, whatever its numbers.
 abbrev pub program_has_primitives : Program → Bool
-program_has_primitives (program fs globals cs) = functions_have_primitives fs && have_primitives cs
+program_has_primitives = program_passes (λ n. true) (λ f. true)

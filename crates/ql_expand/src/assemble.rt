@@ -2,10 +2,10 @@
 
 ghost use Rattle.std.specs.Prelude.{◌≡◌, IfOk, [], ◌∷◌, reverse};
 ghost use Rattle.ql_base.specs.Reserved.{number};
-ghost use Rattle.ql_forms.specs.View.{atom_of, form_of};
+ghost use Rattle.ql_forms.specs.View.{atom_of};
 ghost use Rattle.ql_forms.specs.Form.{atom};
-ghost use Rattle.ql_expand.specs.Assembly.{one_bound, nil_core, atom_core, with_one, with_two, either, linked, chain, all_linked, folded, operands, under, nested, let_core, before_body, of_each, has_body};
-ghost use Rattle.ql_expand.specs.Core.{binder, binding, call, core, constant, conditional, funcall, hidden, lambda, named, primitive, print, progn, qlambda, qlet, setq, variable};
+ghost use Rattle.ql_expand.specs.Assembly.{nil_core, atom_core, with_one, with_two, either, linked, chain, all_linked, folded, operands, nested, let_core, before_body, of_each, has_body};
+ghost use Rattle.ql_expand.specs.Core.{binder, binding, call, core, constant, conditional, funcall, named, primitive, print, progn, qlambda, variable};
 ghost use Rattle.ql_expand.specs.View.{binders_of, bound_of, bounds_of, core_of, cores_of, name_of, node_of};
 
 use crate::core_form::{Binder, Bound, Constant, Core, Node, VarName};
@@ -57,16 +57,6 @@ fn one_item<T: Drop>(alloc: Global, item: T) -> Result<Items<T>, AllocError>
     Ok(Items::from_vec(items))
 }
 
-// These two items.
-fn two_items<T: Drop>(alloc: Global, first: T, second: T) -> Result<Items<T>, AllocError>
-    ensures { IfOk result (λ items. items ≡ first ∷ second ∷ []) }
-{
-    let mut items = Vec::with_capacity(alloc, 2)?;
-    items.push(first)?;
-    items.push(second)?;
-    Ok(Items::from_vec(items))
-}
-
 /// Makes core at the offset of a form.
 #[derive(Clone, Copy)]
 pub struct Maker {
@@ -75,7 +65,8 @@ pub struct Maker {
 }
 
 impl Maker {
-    fn core<'a>(self, node: Node<'a>) -> Core<'a>
+    /// Core of this kind.
+    pub fn core<'a>(self, node: Node<'a>) -> Core<'a>
         ensures { core_of result ≡ core self.at.0 (node_of node.entry) }
     {
         Core { at: self.at, node }
@@ -134,15 +125,15 @@ impl Maker {
         ensures { IfOk result (λ c. core_of c ≡ with_one self.at.0 (number Reserved.Null) (core self.at.0 (primitive (number op) (cores_of args.entry.items)))) }
     {
         let value = self.primitive(op.number(), Items::from_vec(args));
-        let value = one_item(self.alloc, value)?;
-        Ok(self.primitive(Reserved::Null.number(), value))
+        let value = vec![in self.alloc; value]?;
+        Ok(self.primitive(Reserved::Null.number(), Items::from_vec(value)))
     }
 
     fn with_two<'a>(self, op: u32, first: Core<'a>, second: Core<'a>) -> Made<'a>
         ensures { IfOk result (λ c. core_of c ≡ with_two self.at.0 op (core_of first.entry) (core_of second.entry)) }
     {
-        let args = two_items(self.alloc, first, second)?;
-        Ok(self.primitive(op, args))
+        let args = vec![in self.alloc; first, second]?;
+        Ok(self.primitive(op, Items::from_vec(args)))
     }
 
     /// A conditional.
@@ -250,37 +241,19 @@ impl Maker {
         self.core(Node::Let { binds, body })
     }
 
-    // One binding round a body.
-    fn one_binding<'a>(self, bind: Bound<'a>, body: Child<'a>) -> Result<Child<'a>, AllocError>
-        ensures { IfOk result (λ c. core_of c ≡ core self.at.0 (binding (one_bound (bound_of bind.entry).0 (bound_of bind.entry).1) (core_of body.entry))) }
-    {
-        let binds = one_item(self.alloc, bind)?;
-        Boxed::new(self.alloc, self.binding(binds, body))
-    }
-
-    // A body under bindings, from the last one.
-    #[tactic(auto, using(crate::proofs::Assembles::under_last))]
-    fn under<'a>(self, mut binds: Items<Bound<'a>>, mut body: Child<'a>) -> Made<'a>
-        ensures { IfOk result (λ c. core_of c ≡ under self.at.0 (bounds_of binds.entry) (core_of body.entry)) }
-    {
-        while let Some(bind) = binds.pop() {
-            body = self.one_binding(bind, body)?;
-        }
-        Ok(body.into_inner())
-    }
-
-    // A body under bindings of which each sees those before it.
-    #[tactic(auto, using(crate::proofs::Assembles::nested_last))]
-    fn nested<'a>(self, mut binds: Items<Bound<'a>>, body: Child<'a>) -> Made<'a>
+    // A body under bindings of which each sees those before it, from the last one.
+    #[tactic(auto, using(crate::proofs::Assembles::under_last, crate::proofs::Assembles::nested_under))]
+    fn nested<'a>(self, mut binds: Items<Bound<'a>>, mut body: Child<'a>) -> Made<'a>
         ensures { IfOk result (λ c. core_of c ≡ nested self.at.0 (bounds_of binds.entry) (core_of body.entry)) }
     {
-        match binds.pop() {
-            None => Ok(self.binding(Items::new(self.alloc), body)),
-            Some(last) => {
-                let inner = self.one_binding(last, body)?;
-                self.under(binds, inner)
-            }
+        if binds.is_empty() {
+            return Ok(self.binding(binds, body));
         }
+        while let Some(bind) = binds.pop() {
+            let alone = one_item(self.alloc, bind)?;
+            body = Boxed::new(self.alloc, self.binding(alone, body))?;
+        }
+        Ok(body.into_inner())
     }
 
     /// Bindings round a body, of `let` or `let*`.
@@ -343,24 +316,6 @@ impl Maker {
         }
     }
 
-    /// A datum as a constant.
-    pub fn quoted<'a>(self, datum: &'a Form) -> Core<'a>
-        ensures { core_of result ≡ core self.at.0 (constant (form_of datum.now)) }
-    {
-        self.core(Node::Const(Constant::Spelled(datum)))
-    }
-
-    /// A change of a variable.
-    pub fn setq<'a>(self, variable: Symbol, value: Child<'a>) -> Core<'a>
-        ensures { core_of result ≡ core self.at.0 (setq (named variable.number) variable.at.0 (core_of value.entry)) }
-    {
-        self.core(Node::Setq {
-            name: VarName::Sym(variable.number),
-            named: variable.at,
-            value,
-        })
-    }
-
     /// Forms in turn.
     pub fn progn<'a>(self, forms: Vec<Core<'a>>) -> Core<'a>
         ensures { core_of result ≡ core self.at.0 (progn (cores_of forms.entry.items)) }
@@ -384,20 +339,6 @@ impl Maker {
             fun,
             args: Items::from_vec(args),
         })
-    }
-
-    /// A closure.
-    pub fn lambda<'a>(self, params: Items<Binder>, body: Child<'a>) -> Core<'a>
-        ensures { core_of result ≡ core self.at.0 (lambda (binders_of params) (core_of body.entry)) }
-    {
-        self.core(Node::Lambda { params, body })
-    }
-
-    /// Bindings whose values may be found by processes, round a body.
-    pub fn qlet<'a>(self, prop: Child<'a>, binds: Items<Bound<'a>>, body: Child<'a>) -> Core<'a>
-        ensures { core_of result ≡ core self.at.0 (qlet (core_of prop.entry) (bounds_of binds.entry) (core_of body.entry)) }
-    {
-        self.core(Node::Qlet { prop, binds, body })
     }
 
     /// A closure that may be a process.

@@ -3,15 +3,15 @@
 ghost use Rattle.std.specs.Prelude.{◌≡◌, ◌≤◌, ◌+◌, IfOk, MatchOption, Some, false, true};
 ghost use Rattle.ql_forms.specs.Form.{Forms as Data, atom, more, count, place_of};
 ghost use Rattle.ql_forms.specs.View.{atom_of, form_of, forms_of};
-ghost use Rattle.ql_expand.specs.Building.{IsList, IsFine, AreFine, IsFineBind, AreFineBinds, IsFineClause, AreFineClauses, HasParameters, HasBinders, IsFineSplit, Fits, allows, passes, Clauses, EachOf, weight, weights, split_weight};
-ghost use Rattle.ql_expand.specs.Core.{binder, named};
+ghost use Rattle.ql_expand.specs.Building.{IsList, IsFine, AreFine, IsFineBind, AreFineBinds, IsFineClause, AreFineClauses, HasParameters, HasBinders, IsFineSplit, Gives, allows, passes, Clauses, EachOf, weight, weights};
+ghost use Rattle.ql_expand.specs.Core.{named};
 ghost use Rattle.ql_expand.specs.Expands.{applied, parameters_in, binders_in, Expands, Body, Bind, Binds};
 ghost use Rattle.ql_expand.specs.Operator.{operator_of, reading_of};
 ghost use Rattle.ql_expand.specs.Parts.{split_of};
 ghost use Rattle.ql_expand.specs.View.{binders_of, bound_of, bounds_of, core_of, cores_of};
 
 use crate::assemble::{Child, Made, Maker, bound_to, has_body};
-use crate::core_form::{Binder, Bound, Core, VarName};
+use crate::core_form::{Binder, Bound, Constant, Core, Node, VarName};
 use crate::operator::{Operator, operator_of};
 use crate::parts::{Parts, bind_of, clause_of, read};
 use ql_base::numbers::Offset;
@@ -21,7 +21,7 @@ use std::alloc::{AllocError, Global};
 
 /// The core of a form.
 #[cycle(build)]
-#[tactic(auto, using(crate::proofs::Making::atom_seen))]
+#[tactic(auto, using(crate::proofs::Making::atom_seen, crate::proofs::Fine::operation_found))]
 pub fn expanded<'a>(alloc: Global, dropped: bool, form: &'a Form) -> Made<'a>
     requires { IsFine (form_of form.now) }
     ensures { IfOk result (λ c. Expands dropped (form_of form.now) (core_of c)) }
@@ -61,8 +61,7 @@ pub fn boxed<'a>(alloc: Global, form: &'a Form) -> Result<Child<'a>, AllocError>
 fn fitting<'a>(at: Offset, head: Symbol, parts: &'a [Form]) -> Parts<'a>
     requires { IsFine (applied at.0 head.at.0 head.number (forms_of parts.now)) }
     ensures fine { IsFineSplit (split_of result) }
-    ensures fits { Fits (operator_of head.number) (forms_of parts.now) (split_of result) }
-    ensures size { split_weight (split_of result) ≤ weights (forms_of parts.now) }
+    ensures gives { Gives at.0 head.at.0 head.number (forms_of parts.now) (split_of result) }
 {
     match read(operator_of(head.number).reading(), parts) {
         None => unreachable!(),
@@ -72,18 +71,21 @@ fn fitting<'a>(at: Offset, head: Symbol, parts: &'a [Form]) -> Parts<'a>
 
 // A list with this operator.
 #[cycle(build)]
-#[tactic(auto, using(crate::proofs::Making::of_parts))]
 fn applied<'a>(make: Maker, dropped: bool, head: Symbol, parts: &'a [Form]) -> Made<'a>
     requires { IsFine (applied make.at.0 head.at.0 head.number (forms_of parts.now)) }
     ensures { IfOk result (λ c. Expands dropped (applied make.at.0 head.at.0 head.number (forms_of parts.now)) (core_of c)) }
 {
     match fitting(make.at, head, parts) {
         Parts::Definition { .. } => unreachable!(),
-        Parts::Datum(datum) => Ok(make.quoted(datum)),
+        Parts::Datum(datum) => Ok(make.core(Node::Const(Constant::Spelled(datum)))),
         Parts::Forms(_) => of_forms(make, dropped, operator_of(head.number), head, parts),
         Parts::Assignment { variable, value } => {
             let value = boxed(make.alloc, value)?;
-            Ok(make.setq(variable, value))
+            Ok(make.core(Node::Setq {
+                name: VarName::Sym(variable.number),
+                named: variable.at,
+                value,
+            }))
         }
         Parts::Bindings { binds, body } => {
             let binds = all_bound(make.alloc, binds)?;
@@ -94,12 +96,12 @@ fn applied<'a>(make: Maker, dropped: bool, head: Symbol, parts: &'a [Form]) -> M
             let prop = boxed(make.alloc, form)?;
             let binds = all_bound(make.alloc, binds)?;
             let body = boxed_body(make, body)?;
-            Ok(make.qlet(prop, binds, body))
+            Ok(make.core(Node::Qlet { prop, binds, body }))
         }
         Parts::Parameters { params, body } => {
             let params = parameters(make.alloc, params)?;
             let body = boxed_body(make, body)?;
-            Ok(make.lambda(params, body))
+            Ok(make.core(Node::Lambda { params, body }))
         }
         Parts::FormAndParameters { form, params, body } => {
             let prop = boxed(make.alloc, form)?;
@@ -175,6 +177,7 @@ fn all_bound<'a>(alloc: Global, forms: &'a [Form]) -> Result<Items<Bound<'a>>, A
 
 // A variable and its first value.
 #[cycle(build)]
+#[tactic(auto, using(crate::proofs::Fine::bind_found))]
 fn bind<'a>(alloc: Global, form: &'a Form) -> Result<Bound<'a>, AllocError>
     requires { IsFineBind (form_of form.now) }
     ensures { IfOk result (λ b. Bind (form_of form.now) (bound_of b).0 (bound_of b).1) }
@@ -214,7 +217,7 @@ fn cond<'a>(make: Maker, clauses: &'a [Form]) -> Result<Child<'a>, AllocError>
 
 // A clause, and what is built of those after it.
 #[cycle(build)]
-#[tactic(auto, using(crate::proofs::Fine::clause_parts, crate::proofs::Making::clause_alone_made))]
+#[tactic(auto, using(crate::proofs::Fine::clause_found, crate::proofs::Fine::clause_parts, crate::proofs::Making::clause_alone_made))]
 fn clause<'a>(make: Maker, form: &'a Form, rest: Child<'a>) -> Made<'a>
     requires { IsFineClause (form_of form.now) }
     ensures { (others : Data) → Clauses make.at.0 others (core_of rest.entry)

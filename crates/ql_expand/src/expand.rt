@@ -56,14 +56,6 @@ pub fn expand<'a>(alloc: Global, text: &'a Text) -> Result<Program<'a>, ExpandRe
     // The first fault is the answer.
     ensures bad { (kind at : ℕ) → result ≡ Err (Bad kind at) → expand_fault text.now.names (forms_of text.now.forms) ≡ Some (at, kind) }
 {
-    match find_fault(text) {
-        Some(fault) => Err(ExpandRefusal::Bad {
-            kind: fault.kind.number(),
-            at: fault.at.0,
-        }),
-        None => match program_of_text(alloc, text) {
-            Ok(program) => Ok(program),
-            Err(cause) => Err(ExpandRefusal::Memory(cause)),
-        },
-    }
+    check_forms(text)?;
+    program_of_text(alloc, text).map_err(ExpandRefusal::Memory)
 }

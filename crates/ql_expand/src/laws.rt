@@ -2,11 +2,10 @@
 
 ghost use Rattle.std.specs.Prelude.{◌≡◌, ◌≤◌, ℕ, List, Some, true};
 ghost use Rattle.ql_forms.specs.Form.{Forms, forms_below};
-ghost use Rattle.ql_expand.specs.Below.{program_below};
 ghost use Rattle.ql_expand.specs.Core.{Program};
 ghost use Rattle.ql_expand.specs.ExpandFault.{expand_fault};
 ghost use Rattle.ql_expand.specs.Expands.{ExpandsTo};
-ghost use Rattle.ql_expand.specs.Primitives.{program_has_primitives};
+ghost use Rattle.ql_expand.specs.Primitives.{program_below, program_has_primitives};
 
 /// A program has the numbers that stand in the forms, and some of reserved words.
 #[tactic(auto, using(crate::proofs::Programs::has_numbers))]

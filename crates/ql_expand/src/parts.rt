@@ -2,8 +2,7 @@
 
 ghost use Rattle.std.specs.Prelude.{◌≡◌, MatchOption, Some, None, option_map};
 ghost use Rattle.ql_forms.specs.View.{form_of, forms_of};
-ghost use Rattle.ql_expand.specs.ExpandFault.{fits};
-ghost use Rattle.ql_expand.specs.Parts.{split_in, parts_by, bind_in, with_value, clause_in, only_in, forms_by, assignment_by, bindings_by, form_and_bindings_by, parameters_by, form_and_parameters_by, definition_by};
+ghost use Rattle.ql_expand.specs.Parts.{fits, split_in, parts_by, bind_in, with_value, clause_in, only_in, forms_by, assignment_by, bindings_by, form_and_bindings_by, parameters_by, form_and_parameters_by, definition_by};
 
 use crate::operator::Reading;
 use ql_forms::form::{Form, Symbol, first_of};

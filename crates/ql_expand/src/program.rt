@@ -1,8 +1,8 @@
 //! Programs: what a source means once its sugar is expanded.
 
 ghost use Rattle.std.specs.Prelude.{◌≡◌, true, map};
-ghost use Rattle.ql_expand.specs.Below.{program_below};
 ghost use Rattle.ql_expand.specs.Core.{program};
+ghost use Rattle.ql_expand.specs.Primitives.{program_below};
 ghost use Rattle.ql_expand.specs.View.{function_of, cores_of};
 
 use crate::core_form::{Core, Function};

@@ -1,13 +1,12 @@
 //! The first fault of the forms of a source.
 
-ghost use Rattle.std.specs.Prelude.{◌≡◌, is_some};
+ghost use Rattle.std.specs.Prelude.{◌≡◌, ◌≤◌, ◌+◌, Some, is_some};
 ghost use Rattle.ql_base.specs.Refusal.{least};
 ghost use Rattle.ql_forms.specs.View.{form_of, forms_of};
-ghost use Rattle.ql_expand.specs.ExpandFault.{misshapen, variable_faults, function_faults, is_marked, parameter_faults, parameters_faults, form_faults, forms_faults, bind_faults, binds_faults, clause_faults, clauses_faults, source_faults};
+ghost use Rattle.ql_expand.specs.ExpandFault.{misshapen, variable_faults, function_faults, is_marked, top_faults, all_faults, parameter_faults, symbols_faults, parameters_faults, split_faults, faults, source_faults};
 ghost use Rattle.ql_expand.specs.Expands.{binders_in};
-ghost use Rattle.ql_expand.specs.Operator.{operator_of};
 ghost use Rattle.ql_expand.specs.Parts.{split_in};
-ghost use Rattle.ql_expand.specs.Searching.{Past, top_faults, split_faults, symbols_faults};
+ghost use Rattle.ql_expand.specs.Searching.{Past, inside};
 
 use crate::level::{DEEPEST, level_below};
 use crate::operator::{Operator, Reading, operator_of};
@@ -26,7 +25,7 @@ pub fn find_fault(text: &Text) -> Option<Fault>
         names: &text.names,
         first: None,
     };
-    search.tops(text.forms.as_slice());
+    search.all(1, Role::Top, text.forms.as_slice());
     search.first
 }
 
@@ -50,6 +49,15 @@ fn are_symbols(forms: &[Form]) -> bool
         }
     }
     true
+}
+
+/// What a form stands as: a top form, another form, a binding or a clause.
+#[derive(Clone, Copy)]
+pub enum Role {
+    Top,
+    Inner,
+    Bind,
+    Clause,
 }
 
 // How far the search has come.
@@ -83,7 +91,7 @@ impl<'a> Search<'a> {
     }
 
     fn parameter(&mut self, symbol: Symbol)
-        ensures { Past self.old self.new (parameter_faults self.old.names.now symbol.at.0 symbol.number) }
+        ensures { Past self.old self.new (parameter_faults self.old.names.now (Some (symbol.at.0, symbol.number))) }
     {
         if is_marked(self.names.letters(symbol.number)) {
             self.bad_shape(symbol.at);
@@ -93,7 +101,6 @@ impl<'a> Search<'a> {
     }
 
     // A parameter list.
-    #[tactic(auto, using(crate::proofs::Splits::symbols_in))]
     fn parameters(&mut self, params: &Form)
         ensures { Past self.old self.new (parameters_faults self.old.names.now (form_of params.now)) }
     {
@@ -115,46 +122,79 @@ impl<'a> Search<'a> {
     }
 
     // A definition that is no top form.
-    fn definition(&mut self, top: bool, at: Offset, reading: Reading)
-        ensures { Past self.old self.new (top_faults top at.0 reading) }
+    fn definition(&mut self, role: Role, at: Offset, reading: Reading)
+        ensures { Past self.old self.new (top_faults role at.0 reading) }
     {
+        let top = matches!(role, Role::Top);
         if let Reading::Global | Reading::Definition = reading {
             find_if(&mut self.first, !top, FaultKind::BadTop, at);
         }
     }
 
+    // Forms in this role at this level.
+    #[cycle(search)]
     #[tactic(auto, using(ql_base::specs::Refusal::first_appended, crate::proofs::Counts::rest))]
-    fn tops(&mut self, forms: &[Form])
-        ensures { Past self.old self.new (source_faults self.old.names.now (forms_of forms.now)) }
+    fn all(&mut self, level: u128, role: Role, forms: &[Form])
+        ensures { Past self.old self.new (all_faults (faults self.old.names.now level role) (forms_of forms.now)) }
     {
         for form in forms {
-            self.form(true, 1, form);
+            self.form(level, role, form);
         }
     }
 
     #[cycle(search)]
-    #[tactic(auto, using(ql_base::specs::Refusal::first_appended, crate::proofs::Splits::shallow_form))]
-    fn form(&mut self, top: bool, level: u128, form: &Form)
-        ensures { Past self.old self.new (form_faults self.old.names.now top level (form_of form.now)) }
+    #[tactic(auto, using(ql_base::specs::Refusal::first_appended, crate::proofs::Levels::too_deep, crate::proofs::Levels::shallow))]
+    fn form(&mut self, level: u128, role: Role, form: &Form)
+        ensures { Past self.old self.new (faults self.old.names.now level role (form_of form.now)) }
+    {
+        if level > DEEPEST {
+            self.bad_shape(form.offset());
+        } else {
+            self.inside(level, role, form);
+        }
+    }
+
+    // A form that isn't too deep. The value of a binding and the forms of a clause are one level further.
+    #[cycle(search)]
+    #[tactic(auto, using(ql_base::specs::Refusal::first_appended))]
+    fn inside(&mut self, level: u128, role: Role, form: &Form)
+        requires { level ≤ 400 }
+        ensures { Past self.old self.new (inside self.old.names.now level role (form_of form.now)) }
     {
         let at = form.offset();
-        if level > DEEPEST {
-            self.bad_shape(at);
-        } else if !form.is_atom() {
-            let Some((head, parts)) = form.operation() else {
-                self.bad_shape(at);
-                return;
-            };
-            let reading = operator_of(head.number).reading();
-            self.definition(top, at, reading);
-            self.parts(level_below(reading, level, parts), at, read(reading, parts));
+        match role {
+            Role::Bind => match bind_of(form) {
+                None => self.bad_shape(at),
+                Some((variable, None)) => self.variable(variable),
+                Some((variable, Some(value))) => {
+                    self.variable(variable);
+                    self.form(level + 1, Role::Inner, value);
+                }
+            },
+            Role::Clause => match clause_of(form) {
+                None => self.bad_shape(at),
+                Some((test, others)) => {
+                    self.form(level + 1, Role::Inner, test);
+                    self.all(level + 1, Role::Inner, others);
+                }
+            },
+            Role::Top | Role::Inner if form.is_atom() => {}
+            Role::Top | Role::Inner => match form.operation() {
+                None => self.bad_shape(at),
+                Some((head, parts)) => {
+                    let reading = operator_of(head.number).reading();
+                    let parts = read(reading, parts);
+                    self.definition(role, at, reading);
+                    self.parts(level_below(reading, level, parts), at, parts);
+                }
+            },
         }
     }
 
     #[cycle(search)]
     #[tactic(auto, using(ql_base::specs::Refusal::first_appended))]
     fn parts(&mut self, level: u128, at: Offset, parts: Option<Parts>)
-        ensures { Past self.old self.new (split_faults self.old.names.now level at.0 (split_in parts.entry)) }
+        ensures { Past self.old self.new (split_faults self.old.names.now (faults self.old.names.now level) at.0 (split_in parts.entry)) }
     {
         let Some(parts) = parts else {
             self.bad_shape(at);
@@ -162,97 +202,35 @@ impl<'a> Search<'a> {
         };
         match parts {
             Parts::Datum(_) => {}
-            Parts::Forms(forms) => self.forms(level, forms),
+            Parts::Forms(forms) => self.all(level, Role::Inner, forms),
             Parts::Assignment { variable, value } => {
                 self.variable(variable);
-                self.form(false, level, value);
+                self.form(level, Role::Inner, value);
             }
             Parts::Bindings { binds, body } => {
-                self.binds(level, binds);
-                self.forms(level, body);
+                self.all(level, Role::Bind, binds);
+                self.all(level, Role::Inner, body);
             }
             Parts::FormAndBindings { form, binds, body } => {
-                self.form(false, level, form);
-                self.binds(level, binds);
-                self.forms(level, body);
+                self.form(level, Role::Inner, form);
+                self.all(level, Role::Bind, binds);
+                self.all(level, Role::Inner, body);
             }
             Parts::Parameters { params, body } => {
                 self.parameters(params);
-                self.forms(level, body);
+                self.all(level, Role::Inner, body);
             }
             Parts::FormAndParameters { form, params, body } => {
-                self.form(false, level, form);
+                self.form(level, Role::Inner, form);
                 self.parameters(params);
-                self.forms(level, body);
+                self.all(level, Role::Inner, body);
             }
             Parts::Definition { name, params, body } => {
                 self.function(name);
                 self.parameters(params);
-                self.forms(level, body);
+                self.all(level, Role::Inner, body);
             }
-            Parts::Clauses(clauses) => self.clauses(level, clauses),
-        }
-    }
-
-    #[cycle(search)]
-    #[tactic(auto, using(ql_base::specs::Refusal::first_appended, crate::proofs::Counts::rest))]
-    fn forms(&mut self, level: u128, forms: &[Form])
-        ensures { Past self.old self.new (forms_faults self.old.names.now level (forms_of forms.now)) }
-    {
-        for form in forms {
-            self.form(false, level, form);
-        }
-    }
-
-    // A binding, whose value is one level further.
-    #[cycle(search)]
-    #[tactic(auto, using(ql_base::specs::Refusal::first_appended, crate::proofs::Splits::shallow_bind))]
-    fn bind(&mut self, level: u128, bind: &Form)
-        ensures { Past self.old self.new (bind_faults self.old.names.now level (form_of bind.now)) }
-    {
-        match bind_of(bind) {
-            Some((variable, value)) if level <= DEEPEST => {
-                self.variable(variable);
-                if let Some(value) = value {
-                    self.form(false, level + 1, value);
-                }
-            }
-            _ => self.bad_shape(bind.offset()),
-        }
-    }
-
-    #[cycle(search)]
-    #[tactic(auto, using(ql_base::specs::Refusal::first_appended, crate::proofs::Counts::rest))]
-    fn binds(&mut self, level: u128, binds: &[Form])
-        ensures { Past self.old self.new (binds_faults self.old.names.now level (forms_of binds.now)) }
-    {
-        for bind in binds {
-            self.bind(level, bind);
-        }
-    }
-
-    // A clause, whose forms are one level further.
-    #[cycle(search)]
-    #[tactic(auto, using(ql_base::specs::Refusal::first_appended, crate::proofs::Splits::shallow_clause))]
-    fn clause(&mut self, level: u128, clause: &Form)
-        ensures { Past self.old self.new (clause_faults self.old.names.now level (form_of clause.now)) }
-    {
-        match clause_of(clause) {
-            Some((test, others)) if level <= DEEPEST => {
-                self.form(false, level + 1, test);
-                self.forms(level + 1, others);
-            }
-            _ => self.bad_shape(clause.offset()),
-        }
-    }
-
-    #[cycle(search)]
-    #[tactic(auto, using(ql_base::specs::Refusal::first_appended, crate::proofs::Counts::rest))]
-    fn clauses(&mut self, level: u128, clauses: &[Form])
-        ensures { Past self.old self.new (clauses_faults self.old.names.now level (forms_of clauses.now)) }
-    {
-        for clause in clauses {
-            self.clause(level, clause);
+            Parts::Clauses(clauses) => self.all(level, Role::Clause, clauses),
         }
     }
 }

@@ -1,17 +1,13 @@
 //! Top forms, and the program that they make.
 
-ghost use Rattle.std.specs.Prelude.{◌≡◌, [], ℕ, IfOk, OnOk, length, map};
+ghost use Rattle.std.specs.Prelude.{◌≡◌, [], IfOk, OnOk, length, map};
 ghost use Rattle.ql_forms.specs.View.{form_of, forms_of};
-ghost use Rattle.ql_expand.specs.Building.{IsFine, IsFineSplit};
-ghost use Rattle.ql_expand.specs.Core.{core, defvar};
 ghost use Rattle.ql_expand.specs.ExpandFault.{source_faults};
-ghost use Rattle.ql_expand.specs.Expands.{ExpandsTo, TopForms, applied};
-ghost use Rattle.ql_expand.specs.Operator.{operator_of};
-ghost use Rattle.ql_expand.specs.Parts.{assignment_by, definition_by};
+ghost use Rattle.ql_expand.specs.Expands.{ExpandsTo, TopForms};
+ghost use Rattle.ql_expand.specs.Parts.{split_in};
 ghost use Rattle.ql_expand.specs.ProgramView.{program_of};
-ghost use Rattle.ql_expand.specs.Tops.{Adds, IsFineTop};
-ghost use Rattle.ql_expand.specs.View.{core_of, cores_of, function_of};
-ghost use Rattle.ql_expand.specs.declared.operator.Operator.TheVariants.{Defun, Defvar};
+ghost use Rattle.ql_expand.specs.Tops.{Adds, IsFineTop, defined_in};
+ghost use Rattle.ql_expand.specs.View.{cores_of, function_of};
 
 use crate::assemble::Maker;
 use crate::build::{self, boxed, expanded, parameters};
@@ -20,10 +16,9 @@ use crate::laws::expanded_numbers;
 use crate::operator::{Operator, Reading, operator_of};
 use crate::parts::{Parts, read};
 use crate::program::Program;
-use ql_base::numbers::Offset;
-use ql_forms::form::{Form, Symbol};
+use ql_forms::form::Form;
 use ql_forms::text::Text;
-use sqlite_items::{Boxed, Items};
+use sqlite_items::Items;
 use std::alloc::{AllocError, Global};
 
 /// What the top forms so far make.
@@ -70,76 +65,55 @@ fn tops_of<'a>(alloc: Global, text: &'a Text) -> Result<Tops<'a>, AllocError>
     Ok(tops)
 }
 
+// The parts of a definition, which no other form has.
+fn defined_in(form: &Form) -> Option<Parts<'_>>
+    ensures { split_in result ≡ defined_in (form_of form.now) }
+{
+    let (head, parts) = form.operation()?;
+    match operator_of(head.number) {
+        Operator::Defun => read(Reading::Definition, parts),
+        Operator::Defvar => read(Reading::Global, parts),
+        _ => None,
+    }
+}
+
 impl<'a> Tops<'a> {
     // Adds what a top form makes, last.
-    #[tactic(auto, using(crate::proofs::TopForms::fine_definition, crate::proofs::TopForms::fine_global, crate::proofs::TopForms::fine_plain, crate::proofs::TopForms::plain_operator))]
+    #[tactic(auto, using(crate::proofs::TopForms::form_added, crate::proofs::TopForms::function_added, crate::proofs::TopForms::global_added))]
     fn add(&mut self, alloc: Global, form: &'a Form) -> Result<(), AllocError>
         requires { IsFineTop (form_of form.now) }
         ensures { OnOk result (Adds (form_of form.now) self.old self.new) }
     {
-        let Some((head, parts)) = form.operation() else {
-            return self.plain(alloc, form);
-        };
-        match operator_of(head.number) {
-            Operator::Defun => self.definition(alloc, form.offset(), parts),
-            Operator::Defvar => self.global(alloc, form.offset(), parts),
-            _ => self.plain(alloc, form),
+        let at = form.offset();
+        match defined_in(form) {
+            Some(Parts::Definition { name, params, body }) => {
+                let params = parameters(alloc, params)?;
+                let body = build::body(Maker { alloc, at }, body)?;
+                self.functions.push(Function {
+                    name: name.number,
+                    at,
+                    named: name.at,
+                    params,
+                    body,
+                })
+            }
+            Some(Parts::Assignment { variable, value }) => {
+                let value = boxed(alloc, value)?;
+                self.globals.push(variable.number)?;
+                self.body.push(Core {
+                    at,
+                    node: Node::Defvar {
+                        name: variable.number,
+                        named: variable.at,
+                        value,
+                    },
+                })
+            }
+            Some(_) => unreachable!(),
+            None => {
+                let core = expanded(alloc, false, form)?;
+                self.body.push(core)
+            }
         }
-    }
-
-    // A form that defines nothing.
-    #[tactic(auto, using(crate::proofs::TopForms::form_added))]
-    fn plain(&mut self, alloc: Global, form: &'a Form) -> Result<(), AllocError>
-        requires { IsFine (form_of form.now) }
-        ensures { OnOk result (Adds (form_of form.now) self.old self.new) }
-    {
-        let core = expanded(alloc, false, form)?;
-        self.body.push(core)
-    }
-
-    // A `defun` form with these parts.
-    fn definition(&mut self, alloc: Global, at: Offset, parts: &'a [Form]) -> Result<(), AllocError>
-        requires { IsFineSplit (definition_by (forms_of parts.now)) }
-        ensures { (o w : ℕ) → operator_of w ≡ Defun → OnOk result (Adds (applied at.0 o w (forms_of parts.now)) self.old self.new) }
-    {
-        let Some(Parts::Definition { name, params, body }) = read(Reading::Definition, parts) else {
-            unreachable!()
-        };
-        let params = parameters(alloc, params)?;
-        let body = build::body(Maker { alloc, at }, body)?;
-        self.functions.push(Function {
-            name: name.number,
-            at,
-            named: name.at,
-            params,
-            body,
-        })
-    }
-
-    // A `defvar` form with these parts.
-    fn global(&mut self, alloc: Global, at: Offset, parts: &'a [Form]) -> Result<(), AllocError>
-        requires { IsFineSplit (assignment_by (forms_of parts.now)) }
-        ensures { (o w : ℕ) → operator_of w ≡ Defvar → OnOk result (Adds (applied at.0 o w (forms_of parts.now)) self.old self.new) }
-    {
-        let Some(Parts::Assignment { variable, value }) = read(Reading::Global, parts) else {
-            unreachable!()
-        };
-        let value = boxed(alloc, value)?;
-        self.globals.push(variable.number)?;
-        self.body.push(defvar(at, variable, value))
-    }
-}
-
-// A global and its first value.
-fn defvar<'a>(at: Offset, variable: Symbol, value: Boxed<Core<'a>>) -> Core<'a>
-    ensures { core_of result ≡ core at.0 (defvar variable.number variable.at.0 (core_of value.entry)) }
-{
-    Core {
-        at,
-        node: Node::Defvar {
-            name: variable.number,
-            named: variable.at,
-            value,
-        },
     }
 }

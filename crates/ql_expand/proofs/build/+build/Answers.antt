@@ -3,7 +3,7 @@ use Rattle.std.proofs.Common.{arith, sym, ap, subst, ◌∙◌}
 use Rattle.ql_forms.specs.View.{form_of, forms_of}
 use Rattle.ql_expand.specs.Building.{weight, IsFine}
 use Rattle.ql_expand.specs.Expands.{applied}
-use Rattle.ql_expand.proofs.Fine.{forms_fit, operation_shape, bind_alone, bind_value, ends}
+use Rattle.ql_expand.proofs.Fine.{operation_shape, bind_alone, bind_value, ends}
 use Rattle.ql_expand.proofs.Gathering.{IsCore, IsBound, made_next, made_all, cores_made, bounds_made}
 use Rattle.ql_expand.proofs.Making.{tested_made, clause_made}
 use Rattle.ql_expand.proofs.build.+build.Goals as goal
@@ -50,9 +50,6 @@ pub clause-returns-in_ok-body-in-Some-first_of : goal.clause-returns-in_ok-body-
 clause-returns-in_ok-body-in-Some-first_of t c others h =
     rw c.conditional.ensures
     (clause_made c.in-Some.ensures c.in-Some-first_of.ensures c.in_ok-test-in-Some-first_of.ensures c.in_ok-body-in-Some-first_of.ensures h)
-
-pub applied-of_forms-requires : goal.applied-of_forms-requires
-applied-of_forms-requires t c = (omega arith, (c.operator_of.ensures, forms_fit c.in-Forms.ensures.fits c.operator_of.ensures c.in-Forms.ensures.fine))
 
 pub body-each-requires : goal.body-each-requires
 body-each-requires t c =

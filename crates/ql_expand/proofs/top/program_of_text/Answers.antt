@@ -1,6 +1,6 @@
 use Rattle.std.proofs.Common.{◌≡◌, true, length, map, sym, subst}
 use Rattle.ql_forms.specs.View.{forms_of}
-use Rattle.ql_expand.specs.Below.{program_below}
+use Rattle.ql_expand.specs.Primitives.{program_below}
 use Rattle.ql_expand.specs.Core.{program}
 use Rattle.ql_expand.specs.View.{cores_of, function_of}
 use Rattle.ql_expand.proofs.TopForms.{many_names}

@@ -8,7 +8,8 @@ use Rattle.ql_scope.specs.Scope.{binders_in}
 use Rattle.ql_code.specs.Code.{instruction}
 use Rattle.ql_code.specs.declared.code.Op.TheVariants.{Catch, Join, Qcatch}
 use Rattle.ql_compile.proofs.Rests.{drop_is}
-use Rattle.ql_expand.specs.Opened.{defvar_is, primitive_is, print_is, opened, bound_opened, if_is, let_is, call_is, funcall_is, qlet_is, qlambda_is, catch_is, qcatch_is, throw_is, protect_is}
+use Rattle.ql_expand.specs.Opened.{opened, bound_opened, node_opened}
+use Rattle.ql_expand.specs.declared.core_form.Node.TheVariants.{outs-If, outs-Let, outs-Prim, outs-Print, outs-Call, outs-Funcall, outs-Qlet, outs-Qlambda, outs-Catch, outs-Qcatch, outs-Throw, outs-Protect, outs-Defvar}
 use Rattle.ql_meaning.specs.Context.{offset_of}
 use Rattle.ql_compile.specs.Compile.{call_op, find_in, place_called, starts_of, write_op}
 use Rattle.ql_compile.specs.Emitting.{context_in, core_code, followed, cores_code, joined_code, just, places_in, values_code, within}
@@ -134,73 +135,73 @@ pub node-returns-in_ok-core-in-If-3 : goal.node-returns-in_ok-core-in-If-3
 node-returns-in_ok-core-in-If-3 t c =
     let step = on_ok_weaker c.jump_here.result (conditional_code c.args.at.0 (core_of c.get-in-If.result.now) (core_of c.get-in-If-2.result.now) (core_of c.get-in-If-3.result.now) c.args.self.now c.core-in-If.new.self c.hole.new.self c.core-in-If-2.new.self c.hole-in-If.new.self c.branch_here.new.self c.core-in-If-3.new.self c.jump_here.new.self c.in_ok-branch-in-If.branch c.in_ok-jump-in-If.jump
     c.in_ok-core-in-If.ensures c.in_ok-branch-in-If.ensures.place c.in_ok-branch-in-If.ensures.hole c.in_ok-core-in-If-2.ensures c.in_ok-jump-in-If.ensures.place c.in_ok-jump-in-If.ensures.hole c.in_ok-branch_here-in-If.ensures c.in_ok-core-in-If-3.ensures) c.jump_here.ensures in
-    rw (c.in-If.is, if_is c.in-If.test c.in-If.then c.in-If.other) (rw (c.get-in-If.ensures, c.get-in-If-2.ensures, c.get-in-If-3.ensures) at step)
+    rw (c.in-If.is, node_opened, outs-If) (rw (c.get-in-If.ensures, c.get-in-If-2.ensures, c.get-in-If-3.ensures) at step)
 
 pub node-returns-in_ok-values-in-Let : goal.node-returns-in_ok-values-in-Let
 node-returns-in_ok-values-in-Let t c =
     let bs : c.as_slice-in-Let-2.result.now ≡ c.as_slice-in-Let.result.now = c.as_slice-in-Let-2.ensures ∙ sym c.as_slice-in-Let.ensures in
     let step = on_ok_weaker c.under.result (binding_code c.args.at.0 (bounds_of c.as_slice-in-Let.result.now) (core_of c.get-in-Let.result.now) c.args.self.now c.values.new.self c.under.new.self c.in_ok-values-in-Let.ensures) (rw bs at c.under.ensures) in
-    rw (c.in-Let.is, let_is c.in-Let.binds c.in-Let.body) (rw (c.as_slice-in-Let.ensures, c.get-in-Let.ensures) at step)
+    rw (c.in-Let.is, node_opened, outs-Let) (rw (c.as_slice-in-Let.ensures, c.get-in-Let.ensures) at step)
 
 pub node-returns-in_ok-cores-in-Prim : goal.node-returns-in_ok-cores-in-Prim
 node-returns-in_ok-cores-in-Prim t c =
     let x = context_in c.args.self.now in
     let step = more_then c.add.result c.args.self.now c.cores.new.self c.add.new.self _ _ c.in_ok-cores-in-Prim.ensures c.add.ensures in
-    rw (c.in-Prim.is, primitive_is c.in-Prim.op c.in-Prim.args) (rw (c.as_slice-in-Prim.ensures, c.primitive.ensures x) at step)
+    rw (c.in-Prim.is, node_opened, outs-Prim) (rw (c.as_slice-in-Prim.ensures, c.primitive.ensures x) at step)
 
 pub node-returns-in_ok-core-in-Print : goal.node-returns-in_ok-core-in-Print
 node-returns-in_ok-core-in-Print t c =
     let step = more_then c.add-in-Print.result c.args.self.now c.core-in-Print.new.self c.add-in-Print.new.self _ _ c.in_ok-core-in-Print.ensures c.add-in-Print.ensures in
-    rw (c.in-Print.is, print_is c.in-Print.form) (rw (c.get-in-Print.ensures) at step)
+    rw (c.in-Print.is, node_opened, outs-Print) (rw (c.get-in-Print.ensures) at step)
 
 pub node-returns-in_ok-cores-in-Call : goal.node-returns-in_ok-cores-in-Call
 node-returns-in_ok-cores-in-Call t c =
     let step = emits_more c.call.result (λ e. just (call_op (context_in e) (place_called (places_in e) c.in-Call.name) (cores_of c.as_slice-in-Call-2.result.now)) c.args.at.0 e) c.args.self.now c.cores-in-Call.new.self c.call.new.self _ c.in_ok-cores-in-Call.ensures c.call.ensures in
-    rw (c.in-Call.is, call_is c.in-Call.name c.in-Call.named c.in-Call.args) (rw (c.as_slice-in-Call.ensures, c.as_slice-in-Call-2.ensures) at step)
+    rw (c.in-Call.is, node_opened, outs-Call) (rw (c.as_slice-in-Call.ensures, c.as_slice-in-Call-2.ensures) at step)
 
 pub node-returns-in_ok-cores_above-in-Funcall : goal.node-returns-in_ok-cores_above-in-Funcall
 node-returns-in_ok-cores_above-in-Funcall t c =
     let cs : c.as_slice-in-Funcall-2.result.now ≡ c.as_slice-in-Funcall.result.now = c.as_slice-in-Funcall-2.ensures ∙ sym c.as_slice-in-Funcall.ensures in
     let step = on_ok_weaker c.funcall.result (funcall_code c.args.at.0 c.in-Funcall.ignored (core_of c.get-in-Funcall.result.now) (cores_of c.as_slice-in-Funcall.result.now) c.args.self.now c.core-in-Funcall.new.self c.cores_above.new.self c.funcall.new.self
     c.in_ok-core-in-Funcall.ensures c.in_ok-cores_above-in-Funcall.ensures) (rw cs at c.funcall.ensures) in
-    rw (c.in-Funcall.is, funcall_is c.in-Funcall.ignored c.in-Funcall.fun c.in-Funcall.args) (rw (c.get-in-Funcall.ensures, c.as_slice-in-Funcall.ensures) at step)
+    rw (c.in-Funcall.is, node_opened, outs-Funcall) (rw (c.get-in-Funcall.ensures, c.as_slice-in-Funcall.ensures) at step)
 
 pub node-returns-in_ok-gather-in-Qlet : goal.node-returns-in_ok-gather-in-Qlet
 node-returns-in_ok-gather-in-Qlet t c =
     let bs : c.as_slice-in-Qlet-2.result.now ≡ c.as_slice-in-Qlet.result.now = c.as_slice-in-Qlet-2.ensures ∙ sym c.as_slice-in-Qlet.ensures in
     let step = on_ok_weaker c.under-in-Qlet.result (qlet_code c.args.at.0 (core_of c.get-in-Qlet.result.now) (bounds_of c.as_slice-in-Qlet.result.now) (core_of c.get-in-Qlet-2.result.now) c.args.self.now c.core-in-Qlet.new.self c.hole-in-Qlet.new.self c.joined.new.self c.gather.new.self c.under-in-Qlet.new.self c.in_ok-hole-in-Qlet.hole c.in_ok-starts-in-Qlet.starts.items
     c.in_ok-core-in-Qlet.ensures c.in_ok-hole-in-Qlet.ensures.place c.in_ok-hole-in-Qlet.ensures.hole c.in_ok-starts-in-Qlet.ensures.starts c.in_ok-starts-in-Qlet.ensures.code c.in_ok-gather-in-Qlet.ensures) (rw bs at c.under-in-Qlet.ensures) in
-    rw (c.in-Qlet.is, qlet_is c.in-Qlet.prop c.in-Qlet.binds c.in-Qlet.body) (rw (c.get-in-Qlet.ensures, c.as_slice-in-Qlet.ensures, c.get-in-Qlet-2.ensures) at step)
+    rw (c.in-Qlet.is, node_opened, outs-Qlet) (rw (c.get-in-Qlet.ensures, c.as_slice-in-Qlet.ensures, c.get-in-Qlet-2.ensures) at step)
 
 pub node-returns-in_ok-core-in-Qlambda : goal.node-returns-in_ok-core-in-Qlambda
 node-returns-in_ok-core-in-Qlambda t c =
     let step = on_ok_weaker c.closure-in-Qlambda.result (qlambda_code c.args.at.0 (core_of c.get-in-Qlambda.result.now) (binders_of c.as_slice-in-Qlambda.result.now) (core_of c.get-in-Qlambda-2.result.now) c.args.self.now c.core-in-Qlambda.new.self c.closure-in-Qlambda.new.self c.in_ok-core-in-Qlambda.ensures) c.closure-in-Qlambda.ensures in
-    rw (c.in-Qlambda.is, qlambda_is c.in-Qlambda.prop c.in-Qlambda.params c.in-Qlambda.body) (rw (c.get-in-Qlambda.ensures, c.as_slice-in-Qlambda.ensures, c.get-in-Qlambda-2.ensures) at step)
+    rw (c.in-Qlambda.is, node_opened, outs-Qlambda) (rw (c.get-in-Qlambda.ensures, c.as_slice-in-Qlambda.ensures, c.get-in-Qlambda-2.ensures) at step)
 
 pub node-returns-in_ok-core-in-Catch-2 : goal.node-returns-in_ok-core-in-Catch-2
 node-returns-in_ok-core-in-Catch-2 t c =
     let step = on_ok_weaker c.catch_here.result (caught_code Catch c.args.at.0 (core_of c.get-in-Catch.result.now) (core_of c.get-in-Catch-2.result.now) c.args.self.now c.core-in-Catch.new.self c.hole-in-Catch.new.self c.core-in-Catch-2.new.self c.catch_here.new.self c.in_ok-hole-in-Catch.hole
     c.in_ok-core-in-Catch.ensures c.in_ok-hole-in-Catch.ensures.place c.in_ok-hole-in-Catch.ensures.hole c.in_ok-core-in-Catch-2.ensures) c.catch_here.ensures in
-    rw (c.in-Catch.is, catch_is c.in-Catch.tag c.in-Catch.body) (rw (c.get-in-Catch.ensures, c.get-in-Catch-2.ensures) at step)
+    rw (c.in-Catch.is, node_opened, outs-Catch) (rw (c.get-in-Catch.ensures, c.get-in-Catch-2.ensures) at step)
 
 pub node-returns-in_ok-core-in-Qcatch-2 : goal.node-returns-in_ok-core-in-Qcatch-2
 node-returns-in_ok-core-in-Qcatch-2 t c =
     let step = on_ok_weaker c.qcatch_here.result (caught_code Qcatch c.args.at.0 (core_of c.get-in-Qcatch.result.now) (core_of c.get-in-Qcatch-2.result.now) c.args.self.now c.core-in-Qcatch.new.self c.hole-in-Qcatch.new.self c.core-in-Qcatch-2.new.self c.qcatch_here.new.self c.in_ok-hole-in-Qcatch.hole
     c.in_ok-core-in-Qcatch.ensures c.in_ok-hole-in-Qcatch.ensures.place c.in_ok-hole-in-Qcatch.ensures.hole c.in_ok-core-in-Qcatch-2.ensures) c.qcatch_here.ensures in
-    rw (c.in-Qcatch.is, qcatch_is c.in-Qcatch.tag c.in-Qcatch.body) (rw (c.get-in-Qcatch.ensures, c.get-in-Qcatch-2.ensures) at step)
+    rw (c.in-Qcatch.is, node_opened, outs-Qcatch) (rw (c.get-in-Qcatch.ensures, c.get-in-Qcatch-2.ensures) at step)
 
 pub node-returns-in_ok-core_above-in-Throw : goal.node-returns-in_ok-core_above-in-Throw
 node-returns-in_ok-core_above-in-Throw t c =
     let step = on_ok_weaker c.add-in-Throw.result (throw_code c.args.at.0 (core_of c.get-in-Throw.result.now) (core_of c.get-in-Throw-2.result.now) c.args.self.now c.core-in-Throw.new.self c.core_above.new.self c.add-in-Throw.new.self c.in_ok-core-in-Throw.ensures c.in_ok-core_above-in-Throw.ensures) c.add-in-Throw.ensures in
-    rw (c.in-Throw.is, throw_is c.in-Throw.tag c.in-Throw.value) (rw (c.get-in-Throw.ensures, c.get-in-Throw-2.ensures) at step)
+    rw (c.in-Throw.is, node_opened, outs-Throw) (rw (c.get-in-Throw.ensures, c.get-in-Throw-2.ensures) at step)
 
 pub node-returns-in_ok-core_above-in-Protect : goal.node-returns-in_ok-core_above-in-Protect
 node-returns-in_ok-core_above-in-Protect t c =
     let step = on_ok_weaker c.add-in-Protect.result (protect_code c.args.at.0 (core_of c.get-in-Protect.result.now) (core_of c.get-in-Protect-2.result.now) c.args.self.now c.hole-in-Protect.new.self c.core-in-Protect.new.self c.protect_here.new.self c.core_above-in-Protect.new.self c.add-in-Protect.new.self c.in_ok-hole-in-Protect.hole
     c.in_ok-hole-in-Protect.ensures.place c.in_ok-hole-in-Protect.ensures.hole c.in_ok-core-in-Protect.ensures c.in_ok-protect_here-in-Protect.ensures c.in_ok-core_above-in-Protect.ensures) c.add-in-Protect.ensures in
-    rw (c.in-Protect.is, protect_is c.in-Protect.value c.in-Protect.cleanup) (rw (c.get-in-Protect.ensures, c.get-in-Protect-2.ensures) at step)
+    rw (c.in-Protect.is, node_opened, outs-Protect) (rw (c.get-in-Protect.ensures, c.get-in-Protect-2.ensures) at step)
 
 pub node-returns-in_ok-core-in-Defvar : goal.node-returns-in_ok-core-in-Defvar
 node-returns-in_ok-core-in-Defvar t c =
     let step = emits_more c.assign-in-Defvar.result (λ e. just (write_op (context_in e) (find_in e.frame (name_of (Sym c.in-Defvar.name))) (name_of (Sym c.in-Defvar.name))) c.args.at.0 e) c.args.self.now c.core-in-Defvar.new.self c.assign-in-Defvar.new.self _ c.in_ok-core-in-Defvar.ensures c.assign-in-Defvar.ensures in
-    rw (c.in-Defvar.is, defvar_is c.in-Defvar.name c.in-Defvar.named c.in-Defvar.value) (rw (c.get-in-Defvar.ensures) at step)
+    rw (c.in-Defvar.is, node_opened, outs-Defvar) (rw (c.get-in-Defvar.ensures) at step)

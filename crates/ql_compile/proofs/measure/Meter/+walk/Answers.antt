@@ -2,7 +2,8 @@ use Rattle.std.proofs.Common.{◌≡◌, ◌+◌, ◌<◌, ◌++◌, ◌∷◌, 
 use Rattle.ql_expand.specs.View.{bounds_of, core_of, cores_of}
 use Rattle.ql_meaning.specs.Context.{offset_of}
 use Rattle.ql_compile.proofs.Rests.{drop_is}
-use Rattle.ql_expand.specs.Opened.{primitive_is, opened, bound_opened, setq_is, if_is, let_is, call_is, funcall_is, qlet_is, qlambda_is, catch_is, qcatch_is, throw_is, protect_is}
+use Rattle.ql_expand.specs.Opened.{opened, bound_opened, node_opened}
+use Rattle.ql_expand.specs.declared.core_form.Node.TheVariants.{outs-Setq, outs-If, outs-Let, outs-Prim, outs-Call, outs-Funcall, outs-Qlet, outs-Qlambda, outs-Catch, outs-Qcatch, outs-Throw, outs-Protect}
 use Rattle.ql_compile.specs.Measure.{offsets_of, offsets_of_cores, offsets_of_forms, offsets_of_joined, offsets_of_values}
 use Rattle.ql_compile.proofs.Measuring.{counted_append, counted_next, counted_step, forms_more}
 use Rattle.ql_compile.proofs.measure.Meter.+walk.Goals as goal
@@ -47,40 +48,40 @@ forms-loop-form-preserved t c =
     x.at.0 c.core.ensures c.step-in-loop-form.ensures (rw (here, forms_more c.args.at.0 x last (drop (i + 1) c.in-Some.others.now), place) at c.loop-form.invariant)
 
 pub node-returns-in-Setq : goal.node-returns-in-Setq
-node-returns-in-Setq t c = grind (arith, counted_append, setq_is)
+node-returns-in-Setq t c = grind (arith, counted_append, node_opened, outs-Setq)
 
 pub node-returns-in-If : goal.node-returns-in-If
-node-returns-in-If t c = grind (arith, counted_append, if_is)
+node-returns-in-If t c = grind (arith, counted_append, node_opened, outs-If)
 
 pub node-returns-in-Let : goal.node-returns-in-Let
-node-returns-in-Let t c = grind (arith, counted_append, let_is)
+node-returns-in-Let t c = grind (arith, counted_append, node_opened, outs-Let)
 
 pub node-returns-in-Prim : goal.node-returns-in-Prim
-node-returns-in-Prim t c = grind (arith, counted_append, primitive_is)
+node-returns-in-Prim t c = grind (arith, counted_append, node_opened, outs-Prim)
 
 pub node-returns-in-Call : goal.node-returns-in-Call
-node-returns-in-Call t c = grind (arith, counted_append, call_is)
+node-returns-in-Call t c = grind (arith, counted_append, node_opened, outs-Call)
 
 pub node-returns-then-not-ignored : goal.node-returns-then-not-ignored
-node-returns-then-not-ignored t c = grind (arith, counted_append, funcall_is)
+node-returns-then-not-ignored t c = grind (arith, counted_append, node_opened, outs-Funcall)
 
 pub node-returns-else-not-ignored : goal.node-returns-else-not-ignored
-node-returns-else-not-ignored t c = grind (arith, counted_append, funcall_is)
+node-returns-else-not-ignored t c = grind (arith, counted_append, node_opened, outs-Funcall)
 
 pub node-returns-in-Qlet : goal.node-returns-in-Qlet
-node-returns-in-Qlet t c = grind (arith, counted_append, qlet_is)
+node-returns-in-Qlet t c = grind (arith, counted_append, node_opened, outs-Qlet)
 
 pub node-returns-in-Qlambda : goal.node-returns-in-Qlambda
-node-returns-in-Qlambda t c = grind (arith, counted_append, qlambda_is)
+node-returns-in-Qlambda t c = grind (arith, counted_append, node_opened, outs-Qlambda)
 
 pub node-returns-in-Catch : goal.node-returns-in-Catch
-node-returns-in-Catch t c = grind (arith, counted_append, catch_is)
+node-returns-in-Catch t c = grind (arith, counted_append, node_opened, outs-Catch)
 
 pub node-returns-in-Qcatch : goal.node-returns-in-Qcatch
-node-returns-in-Qcatch t c = grind (arith, counted_append, qcatch_is)
+node-returns-in-Qcatch t c = grind (arith, counted_append, node_opened, outs-Qcatch)
 
 pub node-returns-in-Throw : goal.node-returns-in-Throw
-node-returns-in-Throw t c = grind (arith, counted_append, throw_is)
+node-returns-in-Throw t c = grind (arith, counted_append, node_opened, outs-Throw)
 
 pub node-returns-in-Protect : goal.node-returns-in-Protect
-node-returns-in-Protect t c = grind (arith, counted_append, protect_is)
+node-returns-in-Protect t c = grind (arith, counted_append, node_opened, outs-Protect)

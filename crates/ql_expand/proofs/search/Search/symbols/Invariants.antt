@@ -1,4 +1,5 @@
-use Rattle.ql_expand.specs.Searching.{symbols_faults, Going}
+use Rattle.ql_expand.specs.ExpandFault.{symbols_faults}
+use Rattle.ql_expand.specs.Searching.{Going}
 use Rattle.ql_expand.proofs.search.Search.symbols.Given as goal
 
 abbrev pub invariant-loop-form : goal.invariant-loop-form

@@ -3,7 +3,8 @@ use Rattle.std.proofs.lemmas.List.{drop_all}
 use Rattle.ql_expand.specs.View.{core_of, binders_of, bounds_of}
 use Rattle.ql_scope.specs.Scope.{binders_in, core_at}
 use Rattle.ql_scope.proofs.Added.{adds_nothing, adds_then, then_more, under_binders, drop_is}
-use Rattle.ql_expand.specs.Opened.{opened, bound_opened, setq_is, if_is, let_is, call_is, funcall_is, qlet_is, qlambda_is, catch_is, qcatch_is, throw_is, protect_is}
+use Rattle.ql_expand.specs.Opened.{opened, bound_opened, node_opened}
+use Rattle.ql_expand.specs.declared.core_form.Node.TheVariants.{outs-Setq, outs-If, outs-Let, outs-Call, outs-Funcall, outs-Qlet, outs-Qlambda, outs-Catch, outs-Qcatch, outs-Throw, outs-Protect}
 use Rattle.ql_scope.proofs.walk.Walk.+walk.Goals as goal
 
 pub core-returns : goal.core-returns
@@ -58,54 +59,54 @@ under_variables-returns g c =
 pub node-returns-in_ok-set-in-Setq : goal.node-returns-in_ok-set-in-Setq
 node-returns-in_ok-set-in-Setq g c =
     let step = then_more c.core.result _ _ _ _ _ _ _ c.in_ok-set-in-Setq.ensures c.core.ensures in
-    rw (c.in-Setq.is, setq_is c.in-Setq.name c.in-Setq.named c.in-Setq.value) (rw (c.get.ensures) at step)
+    rw (c.in-Setq.is, node_opened, outs-Setq) (rw (c.get.ensures) at step)
 
 pub node-returns-in_ok-core-in-If-2 : goal.node-returns-in_ok-core-in-If-2
 node-returns-in_ok-core-in-If-2 g c =
     let step = then_more c.core-in-If-3.result _ _ _ _ _ _ _ c.in_ok-core-in-If.ensures (then_more c.core-in-If-3.result _ _ _ _ _ _ _ c.in_ok-core-in-If-2.ensures c.core-in-If-3.ensures) in
-    rw (c.in-If.is, if_is c.in-If.test c.in-If.then c.in-If.other) (rw (c.get-in-If.ensures, c.get-in-If-2.ensures, c.get-in-If-3.ensures) at step)
+    rw (c.in-If.is, node_opened, outs-If) (rw (c.get-in-If.ensures, c.get-in-If-2.ensures, c.get-in-If-3.ensures) at step)
 
 pub node-returns-in_ok-values-in-Let : goal.node-returns-in_ok-values-in-Let
 node-returns-in_ok-values-in-Let g c =
     let step = then_more c.under_variables.result _ _ _ _ _ _ _ c.in_ok-values-in-Let.ensures c.under_variables.ensures in
-    rw (c.in-Let.is, let_is c.in-Let.binds c.in-Let.body) (rw (c.as_slice-in-Let.ensures, c.get-in-Let.ensures, c.as_slice-in-Let-2.ensures) at step)
+    rw (c.in-Let.is, node_opened, outs-Let) (rw (c.as_slice-in-Let.ensures, c.get-in-Let.ensures, c.as_slice-in-Let-2.ensures) at step)
 
 pub node-returns-in-Call : goal.node-returns-in-Call
 node-returns-in-Call g c =
     let step = then_more c.cores-in-Call.result _ _ _ _ _ _ _ c.called.ensures c.cores-in-Call.ensures in
-    rw (c.in-Call.is, call_is c.in-Call.name c.in-Call.named c.in-Call.args) (rw (c.as_slice-in-Call.ensures, c.as_slice-in-Call-2.ensures) at step)
+    rw (c.in-Call.is, node_opened, outs-Call) (rw (c.as_slice-in-Call.ensures, c.as_slice-in-Call-2.ensures) at step)
 
 pub node-returns-in_ok-core-in-Funcall : goal.node-returns-in_ok-core-in-Funcall
 node-returns-in_ok-core-in-Funcall g c =
     let step = then_more c.arguments.result _ _ _ _ _ _ _ c.in_ok-core-in-Funcall.ensures c.arguments.ensures in
-    rw (c.in-Funcall.is, funcall_is c.in-Funcall.ignored c.in-Funcall.fun c.in-Funcall.args) (rw (c.get-in-Funcall.ensures, c.as_slice-in-Funcall.ensures) at step)
+    rw (c.in-Funcall.is, node_opened, outs-Funcall) (rw (c.get-in-Funcall.ensures, c.as_slice-in-Funcall.ensures) at step)
 
 pub node-returns-in_ok-values-in-Qlet : goal.node-returns-in_ok-values-in-Qlet
 node-returns-in_ok-values-in-Qlet g c =
     let step = then_more c.under_variables-in-Qlet.result _ _ _ _ _ _ _ c.in_ok-core-in-Qlet.ensures (then_more c.under_variables-in-Qlet.result _ _ _ _ _ _ _ c.in_ok-values-in-Qlet.ensures c.under_variables-in-Qlet.ensures) in
-    rw (c.in-Qlet.is, qlet_is c.in-Qlet.prop c.in-Qlet.binds c.in-Qlet.body) (rw (c.get-in-Qlet.ensures, c.as_slice-in-Qlet.ensures, c.get-in-Qlet-2.ensures, c.as_slice-in-Qlet-2.ensures) at step)
+    rw (c.in-Qlet.is, node_opened, outs-Qlet) (rw (c.get-in-Qlet.ensures, c.as_slice-in-Qlet.ensures, c.get-in-Qlet-2.ensures, c.as_slice-in-Qlet-2.ensures) at step)
 
 pub node-returns-in_ok-core-in-Qlambda : goal.node-returns-in_ok-core-in-Qlambda
 node-returns-in_ok-core-in-Qlambda g c =
     let step = then_more c.under_params-in-Qlambda.result _ _ _ _ _ _ _ c.in_ok-core-in-Qlambda.ensures c.under_params-in-Qlambda.ensures in
-    rw (c.in-Qlambda.is, qlambda_is c.in-Qlambda.prop c.in-Qlambda.params c.in-Qlambda.body) (rw (c.get-in-Qlambda.ensures, c.get-in-Qlambda-2.ensures, c.as_slice-in-Qlambda.ensures) at step)
+    rw (c.in-Qlambda.is, node_opened, outs-Qlambda) (rw (c.get-in-Qlambda.ensures, c.get-in-Qlambda-2.ensures, c.as_slice-in-Qlambda.ensures) at step)
 
 pub node-returns-in_ok-core-in-Catch : goal.node-returns-in_ok-core-in-Catch
 node-returns-in_ok-core-in-Catch g c =
     let step = then_more c.core-in-Catch-2.result _ _ _ _ _ _ _ c.in_ok-core-in-Catch.ensures c.core-in-Catch-2.ensures in
-    rw (c.in-Catch.is, catch_is c.in-Catch.tag c.in-Catch.body) (rw (c.get-in-Catch.ensures, c.get-in-Catch-2.ensures) at step)
+    rw (c.in-Catch.is, node_opened, outs-Catch) (rw (c.get-in-Catch.ensures, c.get-in-Catch-2.ensures) at step)
 
 pub node-returns-in_ok-core-in-Qcatch : goal.node-returns-in_ok-core-in-Qcatch
 node-returns-in_ok-core-in-Qcatch g c =
     let step = then_more c.core-in-Qcatch-2.result _ _ _ _ _ _ _ c.in_ok-core-in-Qcatch.ensures c.core-in-Qcatch-2.ensures in
-    rw (c.in-Qcatch.is, qcatch_is c.in-Qcatch.tag c.in-Qcatch.body) (rw (c.get-in-Qcatch.ensures, c.get-in-Qcatch-2.ensures) at step)
+    rw (c.in-Qcatch.is, node_opened, outs-Qcatch) (rw (c.get-in-Qcatch.ensures, c.get-in-Qcatch-2.ensures) at step)
 
 pub node-returns-in_ok-core-in-Throw : goal.node-returns-in_ok-core-in-Throw
 node-returns-in_ok-core-in-Throw g c =
     let step = then_more c.core-in-Throw-2.result _ _ _ _ _ _ _ c.in_ok-core-in-Throw.ensures c.core-in-Throw-2.ensures in
-    rw (c.in-Throw.is, throw_is c.in-Throw.tag c.in-Throw.value) (rw (c.get-in-Throw.ensures, c.get-in-Throw-2.ensures) at step)
+    rw (c.in-Throw.is, node_opened, outs-Throw) (rw (c.get-in-Throw.ensures, c.get-in-Throw-2.ensures) at step)
 
 pub node-returns-in_ok-core-in-Protect : goal.node-returns-in_ok-core-in-Protect
 node-returns-in_ok-core-in-Protect g c =
     let step = then_more c.core-in-Protect-2.result _ _ _ _ _ _ _ c.in_ok-core-in-Protect.ensures c.core-in-Protect-2.ensures in
-    rw (c.in-Protect.is, protect_is c.in-Protect.value c.in-Protect.cleanup) (rw (c.get-in-Protect.ensures, c.get-in-Protect-2.ensures) at step)
+    rw (c.in-Protect.is, node_opened, outs-Protect) (rw (c.get-in-Protect.ensures, c.get-in-Protect-2.ensures) at step)
